@@ -1,0 +1,3 @@
+pub mod SymbolText
+pub mod Elements
+pub mod SymbolLayout

@@ -1,0 +1,50 @@
+use crate::symbol::Symbol;
+use std::alloc::AllocError;
+use thiserror::Error;
+
+/// Why the bytes of a table file are refused: the first fault in the order of the records, and in a
+/// record the first of the order below; `row` is the record's number, the header being record 1.
+#[derive(Debug, Drop, Error)]
+pub enum TableFault {
+    /// The first record isn't `symbol,number,mass,abundance,valence`, or there is none.
+    #[error("record {row}: the header isn't `symbol,number,mass,abundance,valence`")]
+    Header { row: u64 },
+    /// The record hasn't five fields.
+    #[error("record {row}: not five fields")]
+    FieldCount { row: u64 },
+    /// The symbol isn't a capital letter and at most two small letters, nor `e-`.
+    #[error("record {row}: not a symbol")]
+    Symbol { row: u64 },
+    /// The mass number isn't a whole number from 1 to 400, or the electron's isn't 0.
+    #[error("record {row}: not a mass number from 1 to 400")]
+    MassNumber { row: u64 },
+    /// The mass isn't a decimal of at most 12 decimals from 0.5 to 400 Da, or the electron's isn't
+    /// from 10^-12 to 0.001 Da.
+    #[error("record {row}: not a mass from 0.5 to 400 Da")]
+    Mass { row: u64 },
+    /// The abundance isn't a decimal of at most 9 decimals from 0 to 1, or the electron's isn't 0.
+    #[error("record {row}: not an abundance from 0 to 1")]
+    Abundance { row: u64 },
+    /// The valence isn't a whole number from 0 to 8, the electron's isn't 0, or it isn't the one of
+    /// the element's first record.
+    #[error("record {row}: not the valence of the element, from 0 to 8")]
+    Valence { row: u64 },
+    /// The symbol and the mass number, or the electron, stood in an earlier record.
+    #[error("record {row}: the isotope stood before")]
+    Repeated { row: u64 },
+    /// The record begins the 121st element.
+    #[error("record {row}: more than 120 elements")]
+    TooManyElements { row: u64 },
+    /// The record has the 17th isotope of its element.
+    #[error("record {row}: more than 16 isotopes of an element")]
+    TooManyIsotopes { row: u64 },
+    /// No record is the electron's.
+    #[error("no record of the electron")]
+    NoElectron,
+    /// The abundances of this element, the first such one, are all 0.
+    #[error("an element whose abundances are all 0: {symbol:?}")]
+    NoWeight { symbol: Symbol },
+    /// Want of memory.
+    #[error(transparent)]
+    Memory(#[from(alloc)] AllocError),
+}
