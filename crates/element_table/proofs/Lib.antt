@@ -1,1 +1,7 @@
 pub mod Weights
+pub mod Rising
+pub mod IsotopeFault
+pub mod Entries
+pub mod RowLemmas
+pub mod RowRanges
+pub mod Records

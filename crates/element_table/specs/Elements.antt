@@ -1,5 +1,5 @@
 -- Elements and their isotopes, and the table that has them.
-use Rattle.std.specs.Prelude.{ℕ, ◌+◌, ◌==◌, ◌≡◌, ◌≤◌, ◌<◌, List, [], ◌∷◌, length, map, sum_by, fold, find, nat_lt, if◌then◌else◌, Option, IsTrue, All, AllPairs}
+use Rattle.std.specs.Prelude.{ℕ, ◌==◌, ◌≡◌, ◌≤◌, ◌<◌, List, [], ◌∷◌, length, map, sum_by, fold, find, nat_lt, if◌then◌else◌, Option, IsTrue, All, AllPairs}
 use Rattle.std.specs.List.Sorted.{IsStrictlyIncreasing}
 use Rattle.std.specs.Str.{bytes_eq}
 use Rattle.element_table.specs.SymbolText.{is_symbol}

@@ -1,6 +1,6 @@
 -- How a symbol's letters are laid out: three places, with 0 behind the letters.
 use Rattle.std.specs.Prelude.{ℕ, ◌≡◌, ◌≤◌, List, [], ◌∷◌, length, slice_index_or, take, IsTrue}
-use Rattle.std.proofs.Common.{arith, ap, sym, subst, refl, ◌∙◌, length-take}
+use Rattle.std.proofs.Common.{arith, ap, sym, ◌∙◌, length-take}
 use Rattle.element_table.specs.SymbolText.{is_symbol}
 use Rattle.element_table.specs.declared.symbol.Symbol.TheInside.{Inside}
 

@@ -1,5 +1,5 @@
 -- The text of an element's symbol.
-use Rattle.std.specs.Prelude.{ℕ, Bool, true, false, ◌&&◌, nat_le, List, [], ◌∷◌, length, slice_index, ◌≡◌, ◌≤◌, ◌<◌, take}
+use Rattle.std.specs.Prelude.{ℕ, Bool, false, ◌&&◌, nat_le, List, [], ◌∷◌}
 
 -- a capital letter, A to Z
 abbrev pub is_capital : ℕ → Bool

@@ -1,9 +1,15 @@
-ghost use Rattle.std.specs.Prelude.{◌≡◌};
+ghost use Rattle.std.specs.Prelude.{◌≡◌, [], ◌∷◌, IfOk};
 ghost use Rattle.std.specs.Option.{option_copied};
-ghost use Rattle.element_table.specs.Elements.{IsElement, isotope_of, reference_isotope, total_weight};
+ghost use Rattle.element_table.specs.Elements.{IsElement, IsIsotope, isotope_of, reference_isotope, total_weight};
+ghost use Rattle.element_table.specs.Gathering.{Changes, IsIsotopeRow, isotope_fault, with_isotope};
 
+use crate::fault::TableFault;
 use crate::symbol::Symbol;
+use std::alloc::{AllocError, Global};
 use std::marker::Model;
+
+/// At most so many isotopes of an element.
+const MAX_ISOTOPES: usize = 16;
 
 /// An isotope of an element.
 #[derive(Clone, Copy, Debug, PartialEq, Eq)]
@@ -35,6 +41,56 @@ impl Model for Element {
 }
 
 impl Element {
+    /// An element with its first isotope.
+    pub(crate) fn new(
+        alloc: Global,
+        symbol: Symbol,
+        valence: u32,
+        isotope: Isotope,
+    ) -> Result<Element, AllocError>
+        requires { IsIsotopeRow symbol valence isotope }
+        ensures entry { IfOk result (λ e. e ≡ record { symbol = symbol; valence = valence; isotopes = isotope ∷ [] }) }
+        ensures element { IfOk result (λ e. IsElement e) }
+    {
+        let mut isotopes = Vec::new(alloc);
+        isotopes.push(isotope)?;
+        Ok(Element {
+            symbol,
+            valence,
+            isotopes,
+        })
+    }
+
+    /// Takes in one more isotope, which the record `place` has with this valence.
+    pub(crate) fn add(
+        &mut self,
+        place: u64,
+        valence: u32,
+        isotope: Isotope,
+    ) -> Result<(), TableFault>
+        requires { IsIsotope isotope }
+        ensures added { Changes (isotope_fault place self.old valence isotope) (with_isotope self.old isotope) result self.new }
+        ensures symbol { self.new.symbol ≡ self.old.symbol }
+        ensures element { IsElement self.new }
+    {
+        if self.valence != valence {
+            return Err(TableFault::Valence { row: place });
+        }
+        match self
+            .isotopes
+            .binary_search_by_key(&isotope.number, |other| other.number)
+        {
+            Ok(_) => Err(TableFault::Repeated { row: place }),
+            Err(_) if self.isotopes.len() == MAX_ISOTOPES => {
+                Err(TableFault::TooManyIsotopes { row: place })
+            }
+            Err(at) => {
+                self.isotopes.insert(at, isotope)?;
+                Ok(())
+            }
+        }
+    }
+
     /// The element's symbol.
     pub fn symbol(&self) -> Symbol
         ensures symbol { result ≡ self.now.symbol }

@@ -1,5 +1,8 @@
+ghost use Rattle.std.specs.Prelude.{◌≡◌, alloc_error};
+ghost use Rattle.element_table.specs.declared.fault.TableFault.TheVariants.{Memory};
+
 use crate::symbol::Symbol;
-use std::alloc::AllocError;
+use std::alloc::{AllocError, AllocFailed};
 use thiserror::Error;
 
 /// Why the bytes of a table file are refused: the first fault in the order of the records, and in a
@@ -46,5 +49,21 @@ pub enum TableFault {
     NoWeight { symbol: Symbol },
     /// Want of memory.
     #[error(transparent)]
-    Memory(#[from(alloc)] AllocError),
+    Memory(AllocError),
+}
+
+impl From<AllocError> for TableFault {
+    ghost from_gives = { λ e fault. fault ≡ Memory e };
+
+    fn from(error: AllocError) -> TableFault {
+        TableFault::Memory(error)
+    }
+}
+
+impl<T: Drop> From<AllocFailed<T>> for TableFault {
+    ghost from_gives = { λ _ fault. fault ≡ Memory alloc_error };
+
+    fn from(_failed: AllocFailed<T>) -> TableFault {
+        TableFault::Memory(AllocError)
+    }
 }

@@ -7,10 +7,17 @@
 
 mod element;
 mod fault;
+mod gathering;
+mod reading;
+mod row;
 mod symbol;
 mod table;
 
 pub use element::{Element, Isotope};
 pub use fault::TableFault;
+pub use reading::read_table;
 pub use symbol::Symbol;
 pub use table::Table;
+
+#[cfg(test)]
+mod tests;

@@ -24,6 +24,14 @@ impl Model for Table {
 }
 
 impl Table {
+    /// The table of an electron and elements within the limits.
+    pub(crate) fn new(electron: u64, elements: Vec<Element>) -> Table
+        requires { IsTable (record { electron = electron; elements = elements.items }) }
+        ensures { result ≡ record { electron = electron; elements = elements.items } }
+    {
+        Table { electron, elements }
+    }
+
     /// The elements in the order of their first records.
     pub fn elements(&self) -> &[Element]
         ensures elements { result.now ≡ self.now.elements }

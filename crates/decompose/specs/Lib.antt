@@ -1,0 +1,4 @@
+pub mod Masses
+pub mod CountLists
+pub mod Enumeration
+pub mod Search

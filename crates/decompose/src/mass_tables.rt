@@ -1,0 +1,47 @@
+ghost use Rattle.std.specs.Prelude.{◌≡◌, ◌<◌, ◌≤◌, ◌↔◌, IfOk, OnOk, IsErrOf};
+ghost use Rattle.decompose.specs.Masses.{AreMasses, base_of};
+ghost use Rattle.decompose.specs.declared.mass_tables.TheConstants.{HEAVIEST_BASE};
+
+use crate::faults::ScaleFault;
+use std::alloc::{AllocError, Global};
+use std::marker::Model;
+
+/// The greatest mass that the last symbol of an alphabet may have: 400 Da, in 10^-12 Da.
+pub const HEAVIEST_BASE: u64 = 400_000_000_000_000;
+
+/// What the search for count lists knows of an alphabet. It is seen as the masses of its symbols,
+/// in 10^-12 Da, falling or equal.
+#[derive(Debug, Drop)]
+pub struct Tables {
+    pub(crate) masses: Vec<u64>,
+}
+
+impl Model for Tables {
+    ghost use Rattle.std.specs.Prelude.{ℕ, List};
+    ghost use Rattle.decompose.specs.Masses.{AreMasses};
+
+    ghost Value = { List ℕ };
+
+    ghost view = { λ t. t.masses.items };
+
+    ghost invariant = { λ t. AreMasses t.masses.items };
+}
+
+impl Tables {
+    /// The tables of an alphabet of these masses, in 10^-12 Da: 1 to 20 masses, falling or equal,
+    /// each from 0.5 Da to 1,000,000 Da.
+    ///
+    /// `BaseTooHeavy` exactly where the last mass is above 400 Da.
+    pub fn of(alloc: Global, masses: &[u64]) -> Result<Tables, ScaleFault>
+        requires { AreMasses masses.now }
+        ensures masses { IfOk result (λ t. t ≡ masses.now) }
+        ensures light_enough { OnOk result (base_of masses.now ≤ HEAVIEST_BASE) }
+        ensures too_heavy { IsErrOf result ScaleFault.BaseTooHeavy ↔ (HEAVIEST_BASE < base_of masses.now) }
+    {
+        if masses[masses.len() - 1] > HEAVIEST_BASE {
+            return Err(ScaleFault::BaseTooHeavy);
+        }
+        let masses = masses.to_vec(alloc)?;
+        Ok(Tables { masses })
+    }
+}

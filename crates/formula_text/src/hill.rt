@@ -1,0 +1,49 @@
+//! Hill's order of the items of a formula (E. A. Hill, J. Am. Chem. Soc. 22 (1900) 478).
+ghost use Rattle.std.specs.Prelude.{◌≡◌, IsTrue};
+ghost use Rattle.std.specs.Str.{bytes_eq};
+ghost use Rattle.element_table.specs.SymbolText.{is_symbol};
+ghost use Rattle.formula_text.specs.Items.{carbon_symbol, hill_rank, hill_cmp};
+ghost use Rattle.formula_text.specs.Formulas.{has_carbon};
+
+use crate::item::Item;
+use element_table::Symbol;
+use std::cmp::Ordering;
+
+/// Whether this is the symbol of carbon.
+fn is_carbon(symbol: &Symbol) -> bool
+    ensures { result ≡ bytes_eq symbol.now carbon_symbol }
+{
+    symbol.text() == b"C".as_slice()
+}
+
+/// Whether an atom of carbon is among the parts.
+pub fn has_carbon(parts: &[(Item, u32)]) -> bool
+    ensures { result ≡ has_carbon parts.now }
+{
+    parts
+        .iter()
+        .any(|(item, count)| is_carbon(&item.symbol) && *count > 0)
+}
+
+fn hill_rank(carbon: bool, symbol: &Symbol) -> u8
+    ensures { result ≡ hill_rank carbon symbol.now }
+{
+    if carbon && symbol.text() == b"C".as_slice() {
+        0
+    } else if carbon && symbol.text() == b"H".as_slice() {
+        1
+    } else {
+        2
+    }
+}
+
+/// Compares two items in Hill's order; `carbon` says whether the formula has an atom of carbon.
+pub fn hill_cmp(carbon: bool, a: &Item, b: &Item) -> Ordering
+    ensures order { result ≡ hill_cmp carbon a.now b.now }
+    ensures symbol { IsTrue (is_symbol a.now.symbol) }
+{
+    hill_rank(carbon, &a.symbol)
+        .cmp(&hill_rank(carbon, &b.symbol))
+        .then(a.symbol.text().cmp(b.symbol.text()))
+        .then(a.label.cmp(&b.label))
+}

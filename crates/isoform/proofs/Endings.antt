@@ -1,0 +1,98 @@
+-- What a run shows at the outside, ending by ending.
+use Rattle.std.proofs.Common.{◌≡◌, ℕ, ◌≤◌, List, [], ◌∷◌, ◌++◌, length, take, refl, sym, ap, ◌∙◌, subst, arith, inl, inr}
+use Rattle.std.specs.Prelude.{Option, Result, Ok, Err}
+use Rattle.std.proofs.lemmas.List.{take_all, append-nil}
+use Rattle.outside_ports.specs.Files.{Files}
+use Rattle.isoform.specs.Answering.{◌>>=◌, Refuses}
+use Rattle.isoform.specs.Words.{DecomposeRequest, request_of}
+use Rattle.isoform.specs.Answer.{answer, answer_of_request, answer_of_bytes, bytes_within}
+use Rattle.isoform.specs.Run.{Ending, Outside, Shows, IsTold, IsPut, file_names, table_of_request}
+use Rattle.isoform.specs.declared.refusal.InputFile.TheVariants as file
+use Rattle.isoform.specs.declared.refusal.Refusal.{Refusal}
+use Rattle.isoform.specs.declared.refusal.Refusal.TheVariants.{Words, Value, Table, Alphabet, FileLimit, CandidateLimit, ReadFault, WriteFault, Memory}
+use Rattle.isoform.proofs.Contents.{IsOfContent, RefusesContent}
+
+-- content was refused: all names were asked, and nothing was written
+pub content_shows : (answer : Result (List ℕ) Refusal) (names : List (List ℕ)) (before after : Outside) (refusal : Refusal) → IsOfContent refusal → answer ≡ Err refusal → after.asked ≡ before.asked ++ names → after.shelf_faults ≡ before.shelf_faults → after.received ≡ before.received → after.out_faults ≡ before.out_faults → Shows answer names before after (Err refusal)
+content_shows answer names before after Words content is asks reads receives writes = record { cause = is; reads = reads; writes = writes; asks = asks; receives = receives }
+content_shows answer names before after (Value option) content is asks reads receives writes = record { cause = is; reads = reads; writes = writes; asks = asks; receives = receives }
+content_shows answer names before after Table content is asks reads receives writes = record { cause = is; reads = reads; writes = writes; asks = asks; receives = receives }
+content_shows answer names before after Alphabet content is asks reads receives writes = record { cause = is; reads = reads; writes = writes; asks = asks; receives = receives }
+content_shows answer names before after (FileLimit which) content is asks reads receives writes = record { cause = is; reads = reads; writes = writes; asks = asks; receives = receives }
+content_shows answer names before after (CandidateLimit peak) content is asks reads receives writes = record { cause = is; reads = reads; writes = writes; asks = asks; receives = receives }
+content_shows answer names before after (ReadFault which) content is asks reads receives writes = absurd content
+content_shows answer names before after WriteFault content is asks reads receives writes = absurd content
+content_shows answer names before after Memory content is asks reads receives writes = absurd content
+
+-- memory ran out before anything was written
+pub memory_shows : (answer : Result (List ℕ) Refusal) (names : List (List ℕ)) (before after : Outside) (asked : ℕ) → after.asked ≡ before.asked ++ take asked names → before.shelf_faults ≤ after.shelf_faults → after.received ≡ before.received → after.out_faults ≡ before.out_faults → Shows answer names before after (Err Memory)
+memory_shows answer names before after asked asks reads receives writes =
+    record { cause = tt; reads = reads; writes = writes; asks = (asked, asks); receives = receives }
+
+-- memory ran out after all names were asked
+pub late_memory_shows : (answer : Result (List ℕ) Refusal) (names : List (List ℕ)) (before after : Outside) → after.asked ≡ before.asked ++ names → before.shelf_faults ≤ after.shelf_faults → after.received ≡ before.received → after.out_faults ≡ before.out_faults → Shows answer names before after (Err Memory)
+late_memory_shows answer names before after asks reads receives writes =
+    memory_shows answer names before after (length names) (asks ∙ ap (λ n. before.asked ++ n) (sym (take_all (length names) names (omega arith)))) reads receives writes
+
+-- the refusal of a part of the work, which may be want of memory, is that of the whole
+pub part_shows : (answer part : Result (List ℕ) Refusal) (names : List (List ℕ)) (before after : Outside) (refusal : Refusal) → RefusesContent part → Refuses refusal part → (part ≡ Err refusal → answer ≡ Err refusal) → after.asked ≡ before.asked ++ names → after.shelf_faults ≡ before.shelf_faults → after.received ≡ before.received → after.out_faults ≡ before.out_faults → Shows answer names before after (Err refusal)
+part_shows answer part names before after Memory content refused whole asks reads receives writes =
+    late_memory_shows answer names before after asks (omega (arith, reads)) receives writes
+part_shows answer part names before after Words content refused whole asks reads receives writes =
+    content_shows answer names before after Words tt (whole refused) asks reads receives writes
+part_shows answer part names before after (Value option) content refused whole asks reads receives writes =
+    content_shows answer names before after (Value option) tt (whole refused) asks reads receives writes
+part_shows answer part names before after Table content refused whole asks reads receives writes =
+    content_shows answer names before after Table tt (whole refused) asks reads receives writes
+part_shows answer part names before after Alphabet content refused whole asks reads receives writes =
+    content_shows answer names before after Alphabet tt (whole refused) asks reads receives writes
+part_shows answer part names before after (FileLimit which) content refused whole asks reads receives writes =
+    content_shows answer names before after (FileLimit which) tt (whole refused) asks reads receives writes
+part_shows answer part names before after (CandidateLimit peak) content refused whole asks reads receives writes =
+    content_shows answer names before after (CandidateLimit peak) tt (whole refused) asks reads receives writes
+part_shows answer part names before after (ReadFault which) content refused whole asks reads receives writes =
+    absurd (subst RefusesContent refused content)
+part_shows answer part names before after WriteFault content refused whole asks reads receives writes =
+    absurd (subst RefusesContent refused content)
+
+-- the answer where the file was fetched
+pub answer-fetched : (request : DecomposeRequest) (files : Files) (bytes : List ℕ) (part : Result (List ℕ) Refusal) → bytes_within file.Table 16777216 (files request.table) ≡ Ok bytes → answer_of_bytes request bytes ≡ part → answer_of_request request files ≡ part
+answer-fetched request files bytes part fetched is = ap (λ r. r >>= answer_of_bytes request) fetched ∙ is
+
+-- what a request shows, its words show
+pub words_show : (words : List (List ℕ)) (files : Files) (request : DecomposeRequest) (before after : Outside) (ending : Ending) → Ok request ≡ request_of words → Shows (answer_of_request request files) (request.table ∷ []) before after ending → Shows (answer words files) (file_names words) before after ending
+unfolding answer
+words_show words files request before after ending is shows =
+    subst (λ (r : Result DecomposeRequest Refusal). Shows (r >>= λ q. answer_of_request q files) (table_of_request r) before after ending) is shows
+
+-- words that are refused show that
+pub refused_words_show : (words : List (List ℕ)) (files : Files) (before : Outside) (refusal : Refusal) → RefusesContent (request_of words) → Err refusal ≡ request_of words → Shows (answer words files) (file_names words) before before (Err refusal)
+unfolding answer
+refused_words_show words files before refusal content is =
+    let of_content : IsOfContent refusal = subst RefusesContent (sym is) content in
+    subst (λ (r : Result DecomposeRequest Refusal). Shows (r >>= λ q. answer_of_request q files) (table_of_request r) before before (Err refusal)) is
+    (content_shows (Err refusal) [] before before refusal of_content refl (sym (append-nil before.asked)) refl refl refl)
+
+-- a note was put, under other names of the same values
+pub put_as : {M : Type 0} (written : M → Option (List ℕ)) (faults : M → ℕ) (before middle after : M) (told note : List ℕ) → after ≡ middle → told ≡ note → IsPut told (written before) (faults before) (written middle) (faults middle) → IsPut note (written before) (faults before) (written after) (faults after)
+put_as written faults before middle after told note same is put =
+    subst (λ (n : List ℕ). IsPut n (written before) (faults before) (written after) (faults after)) is
+    (subst (λ m. IsPut told (written before) (faults before) (written m) (faults m)) (sym same) put)
+
+-- memory for the note ran out behind another refusal
+memory_behind : (answer : Result (List ℕ) Refusal) (names : List (List ℕ)) (before after : Outside) (came : Refusal) → (came ≡ WriteFault → ⊥) → Shows answer names before after (Err came) → Shows answer names before after (Err Memory)
+memory_behind answer names before after Memory other shows = shows
+memory_behind answer names before after WriteFault other shows = absurd (other refl)
+memory_behind answer names before after (ReadFault which) other shows = late_memory_shows answer names before after shows.asks shows.reads shows.receives shows.writes
+memory_behind answer names before after Words other shows = late_memory_shows answer names before after shows.asks (omega (arith, shows.reads)) shows.receives shows.writes
+memory_behind answer names before after (Value option) other shows = late_memory_shows answer names before after shows.asks (omega (arith, shows.reads)) shows.receives shows.writes
+memory_behind answer names before after Table other shows = late_memory_shows answer names before after shows.asks (omega (arith, shows.reads)) shows.receives shows.writes
+memory_behind answer names before after Alphabet other shows = late_memory_shows answer names before after shows.asks (omega (arith, shows.reads)) shows.receives shows.writes
+memory_behind answer names before after (FileLimit which) other shows = late_memory_shows answer names before after shows.asks (omega (arith, shows.reads)) shows.receives shows.writes
+memory_behind answer names before after (CandidateLimit peak) other shows = late_memory_shows answer names before after shows.asks (omega (arith, shows.reads)) shows.receives shows.writes
+
+-- what was told is shown
+pub told_shows : (answer : Result (List ℕ) Refusal) (names : List (List ℕ)) (before after : Outside) (came told : Refusal) → IsTold came told → Shows answer names before after (Err came) → Shows answer names before after (Err told)
+told_shows answer names before after came told (inl same) shows = subst (λ (r : Refusal). Shows answer names before after (Err r)) (sym same) shows
+told_shows answer names before after came told (inr memory) shows =
+    subst (λ (r : Refusal). Shows answer names before after (Err r)) (sym memory.0) (memory_behind answer names before after came memory.1 shows)

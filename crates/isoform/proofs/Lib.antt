@@ -1,0 +1,14 @@
+pub mod ToldFiles
+pub mod PutParts
+pub mod Contents
+pub mod Endings
+pub mod FirstPlace
+pub mod CutText
+pub mod EntriesInOrder
+pub mod ReferenceMass
+pub mod AlphabetWalk
+pub mod FormulaItems
+pub mod FormulaLines
+pub mod ReportLines
+pub mod ReadWithin
+pub mod AlphabetMasses

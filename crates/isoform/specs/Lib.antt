@@ -1,0 +1,9 @@
+pub mod Answering
+pub mod Words
+pub mod Requested
+pub mod Alphabet
+pub mod Candidates
+pub mod Report
+pub mod Answer
+pub mod Notes
+pub mod Run

@@ -1,0 +1,38 @@
+-- The note and the status of a refusal.
+use Rattle.std.specs.Prelude.{ℕ, List, [], ◌∷◌, ◌++◌, codes}
+use Rattle.std.specs.Fmt.{decimal}
+use Rattle.isoform.specs.declared.refusal.OptionName.{OptionName}
+use Rattle.isoform.specs.declared.refusal.OptionName.TheVariants.{Mass, Da}
+use Rattle.isoform.specs.declared.refusal.Refusal.{Refusal}
+use Rattle.isoform.specs.declared.refusal.Refusal.TheVariants.{Words, Value, Table, Alphabet, FileLimit, CandidateLimit, ReadFault, WriteFault, Memory}
+
+abbrev pub status_of : Refusal → ℕ
+status_of Words = 2
+status_of (Value option) = 2
+status_of Table = 3
+status_of Alphabet = 5
+status_of (FileLimit which) = 6
+status_of (CandidateLimit peak) = 6
+status_of (ReadFault which) = 7
+status_of WriteFault = 8
+status_of Memory = 9
+
+abbrev pub option_text : OptionName → List ℕ
+option_text Mass = codes "--mass"
+option_text Da = codes "--da"
+
+-- what a note says, where the table file has this name
+abbrev pub message_of : List ℕ → Refusal → List ℕ
+message_of table Words = codes "words"
+message_of table (Value option) = codes "value: " ++ option_text option
+message_of table Table = codes "table"
+message_of table Alphabet = codes "alphabet"
+message_of table (FileLimit which) = codes "limit: file " ++ table
+message_of table (CandidateLimit peak) = codes "limit: candidates of peak " ++ decimal peak
+message_of table (ReadFault which) = codes "read fault: " ++ table
+message_of table WriteFault = codes "write fault"
+message_of table Memory = codes "memory"
+
+-- the note, which is one line
+abbrev pub note_of : List ℕ → Refusal → List ℕ
+note_of table refusal = codes "isoform: " ++ message_of table refusal ++ 10 ∷ []

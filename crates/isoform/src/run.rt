@@ -1,0 +1,197 @@
+// The program: from its words and a shelf of files to an output, notes and a status.
+ghost use Rattle.std.specs.Prelude.{◌+◌, length, ◌≡◌, ◌≢◌, ◌<◌, ◌≤◌, ◌⊎◌, ◌∷◌, [], map, string_bytes, List, Option, Result, Ok, Err, IfOk, IsOkAnd};
+ghost use Rattle.outside_ports.specs.Files.{Files};
+ghost use Rattle.outside_ports.specs.Faults.{Rose};
+ghost use Rattle.outside_ports.specs.Putting.{append_written, AppendsPiece, CountsPut};
+ghost use Rattle.isoform.specs.Answering.{Gives};
+ghost use Rattle.isoform.specs.Answer.{answer, answer_of_request, answer_of_bytes, bytes_within};
+ghost use Rattle.isoform.specs.Notes.{note_of, status_of};
+ghost use Rattle.isoform.specs.Requested.{requested};
+ghost use Rattle.isoform.specs.Run.{Ending, OfFiles, Outside, Shows, TellsNote, IsTold, Fetched, CountsFetchOf, AsksName, IsPut, Runs, outside, table_name, file_names, status_of_answer};
+
+use crate::answer::report_of;
+use crate::refusal::{InputFile, Refusal};
+use crate::request::DecomposeRequest;
+use crate::words::request_of;
+use outside_ports::{Failed, FetchFault, Shelf, Sink};
+use std::alloc::{AllocError, Global};
+
+/// The most bytes of a table file.
+const TABLE_LIMIT: u64 = 16_777_216;
+
+/// The notes that take no memory.
+const WRITE_FAULT_NOTE: &str = "isoform: write fault\n";
+
+const MEMORY_NOTE: &str = "isoform: memory\n";
+
+/// Fetches the table file.
+fn fetch_table<H: Shelf>(alloc: Global, name: &String, shelf: &mut H) -> Result<Vec<u8>, Refusal>
+    ensures held { H.held shelf.new ≡ H.held shelf.old }
+    ensures asks { AsksName (string_bytes name.now) (H.asked shelf.old) (H.asked shelf.new) result }
+    ensures counts { CountsFetchOf (H.faults shelf.old) (H.faults shelf.new) result }
+    ensures fetched { OfFiles (H.held shelf.old) (λ files. Fetched (λ v. v.items) result
+        (bytes_within InputFile.Table 16777216 (files (string_bytes name.now)))) }
+{
+    let mut bytes = Vec::new(alloc);
+    match shelf.fetch(name, TABLE_LIMIT, &mut bytes) {
+        Ok(()) => Ok(bytes),
+        Err(FetchFault::Failed) => Err(Refusal::ReadFault(InputFile::Table)),
+        Err(FetchFault::TooLong) => Err(Refusal::FileLimit(InputFile::Table)),
+        Err(FetchFault::Memory) => Err(Refusal::Memory),
+    }
+}
+
+/// Writes a report, one put for each line.
+fn write_lines<O: Sink>(report: &[u8], out: &mut O) -> Result<(), Failed>
+    ensures written { AppendsPiece result (O.written out.old) report.now (O.written out.new) }
+    ensures faults { CountsPut result (O.faults out.old) (O.faults out.new) }
+    ensures never_falls { O.faults out.old ≤ O.faults out.new }
+{
+    let mut rest = report;
+    while !rest.is_empty() {
+        let (line, others) = rest.split_at(line_len(rest));
+        if let Err(failed) = out.put(line) {
+            return Err(failed);
+        }
+        rest = others;
+    }
+    Ok(())
+}
+
+/// The length of the first line, its line feed included.
+fn line_len(text: &[u8]) -> usize
+    requires { 0 < length text.now }
+    ensures some { 0 < result }
+    ensures within { result ≤ length text.now }
+{
+    match text.iter().position(|byte| *byte == b'\n') {
+        Some(place) => place + 1,
+        None => text.len(),
+    }
+}
+
+/// Serves a request: fetches its table, and writes the report or says why there is none.
+fn serve_request<H: Shelf, O: Sink>(
+    alloc: Global,
+    request: &DecomposeRequest<'_>,
+    shelf: &mut H,
+    out: &mut O,
+) -> Result<(), Refusal>
+    ensures held { H.held shelf.new ≡ H.held shelf.old }
+    ensures shows { OfFiles (H.held shelf.old) (λ files. Shows
+        (answer_of_request (requested request.now) files) (string_bytes request.now.table.now ∷ [])
+        (outside (H.asked shelf.old) (H.faults shelf.old) (O.written out.old) (O.faults out.old))
+        (outside (H.asked shelf.new) (H.faults shelf.new) (O.written out.new) (O.faults out.new)) result) }
+{
+    let bytes = match fetch_table(alloc, request.table, shelf) {
+        Ok(bytes) => bytes,
+        Err(refusal) => return Err(refusal),
+    };
+    let report = match report_of(alloc, request, &bytes) {
+        Ok(report) => report,
+        Err(refusal) => return Err(refusal),
+    };
+    match write_lines(&report, out) {
+        Ok(()) => Ok(()),
+        Err(Failed) => Err(Refusal::WriteFault),
+    }
+}
+
+/// Serves the words: what they ask for, or why it is refused.
+fn serve<H: Shelf, O: Sink>(
+    alloc: Global,
+    words: &[String],
+    shelf: &mut H,
+    out: &mut O,
+) -> Result<(), Refusal>
+    ensures held { H.held shelf.new ≡ H.held shelf.old }
+    ensures shows { OfFiles (H.held shelf.old) (λ files. Shows
+        (answer (map string_bytes words.now) files) (file_names (map string_bytes words.now))
+        (outside (H.asked shelf.old) (H.faults shelf.old) (O.written out.old) (O.faults out.old))
+        (outside (H.asked shelf.new) (H.faults shelf.new) (O.written out.new) (O.faults out.new)) result) }
+{
+    match request_of(words) {
+        Ok(request) => serve_request(alloc, &request, shelf, out),
+        Err(refusal) => Err(refusal),
+    }
+}
+
+/// The name of the table file, where the words ask for one.
+fn table_name(words: &[String]) -> &str
+    ensures { result.now ≡ table_name (map string_bytes words.now) }
+{
+    match request_of(words) {
+        Ok(request) => request.table.as_str(),
+        Err(_) => "",
+    }
+}
+
+/// Tells the notes why there is no report, and answers the status. Where there is no memory for the
+/// note, want of memory is told.
+fn refuse<M: Sink>(alloc: Global, refusal: Refusal, table: &str, notes: &mut M) -> u8
+    ensures { (told : Refusal) × IsTold refusal told × (result ≡ status_of told)
+        × TellsNote table.now (M.written notes.old) (M.faults notes.old) (M.written notes.new) (M.faults notes.new) (Err told) }
+{
+    match refusal {
+        Refusal::WriteFault => tell(WRITE_FAULT_NOTE, notes),
+        Refusal::Memory => tell(MEMORY_NOTE, notes),
+        _ => match refusal.note(alloc, table) {
+            Ok(note) => tell(note.as_str(), notes),
+            Err(AllocError) => {
+                tell(MEMORY_NOTE, notes);
+                return Refusal::Memory.status();
+            }
+        },
+    }
+    refusal.status()
+}
+
+/// Puts a note. That it may fail changes nothing else.
+fn tell<M: Sink>(note: &str, notes: &mut M)
+    ensures { IsPut note.now (M.written notes.old) (M.faults notes.old) (M.written notes.new) (M.faults notes.new) }
+{
+    let _ = notes.put(note.as_bytes());
+}
+
+/// Runs the program on the words behind its name, and answers its exit status.
+///
+/// Status 0: the report was written. 2: the words are no request, or a value is outside its range.
+/// 3: the table has a fault. 5: the alphabet has one. 6: the table file is longer than 16,777,216
+/// bytes, or there are more than 1,048,576 candidates. 7: a file could not be read. 8: the report
+/// could not be written. 9: want of memory. With every status but 0 the notes receive one line.
+pub fn run<H: Shelf, O: Sink, M: Sink>(
+    alloc: Global,
+    words: &Vec<String>,
+    shelf: &mut H,
+    out: &mut O,
+    notes: &mut M,
+) -> u8
+    // Nothing that the shelf holds changes.
+    ensures held { H.held shelf.new ≡ H.held shelf.old }
+
+    // The whole: the run ends as the answer for its words and the files says, or by a device that
+    // failed, or for want of memory; and the shelf, the output and the notes show that ending.
+    ensures runs { OfFiles (H.held shelf.old) (λ files. Runs (map string_bytes words.now.items) files
+        (outside (H.asked shelf.old) (H.faults shelf.old) (O.written out.old) (O.faults out.old))
+        (outside (H.asked shelf.new) (H.faults shelf.new) (O.written out.new) (O.faults out.new))
+        (M.written notes.old) (M.faults notes.old) (M.written notes.new) (M.faults notes.new) result) }
+
+    // Its main parts, one by one. Status 0: `out` received the report of the answer.
+    ensures reported { result ≡ 0 → OfFiles (H.held shelf.old) (λ files. IsOkAnd (answer (map string_bytes words.now.items) files)
+        (λ report. O.written out.new ≡ append_written (O.written out.old) report)) }
+
+    // Where no device failed the status is the answer's, unless memory ran out.
+    ensures answered { ¬ Rose (H.faults shelf.old) (H.faults shelf.new) → ¬ Rose (O.faults out.old) (O.faults out.new) →
+        OfFiles (H.held shelf.old) (λ files. (result ≡ 9) ⊎ (result ≡ status_of_answer (answer (map string_bytes words.now.items) files))) }
+
+    // A device is blamed only where its count of faults rose in this run, and always where it is greater.
+    ensures read_fault { result ≡ 7 → Rose (H.faults shelf.old) (H.faults shelf.new) }
+    ensures write_fault { result ≡ 8 → Rose (O.faults out.old) (O.faults out.new) }
+    ensures risen_reads { H.faults shelf.old < H.faults shelf.new → (result ≡ 7) ⊎ (result ≡ 9) }
+    ensures risen_writes { O.faults out.old < O.faults out.new → result ≡ 8 }
+{
+    match serve(alloc, words, shelf, out) {
+        Ok(()) => 0,
+        Err(refusal) => refuse(alloc, refusal, table_name(words), notes),
+    }
+}

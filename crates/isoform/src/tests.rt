@@ -1,0 +1,356 @@
+// Whole runs over shelves and sinks in memory: the worked examples, and what fails.
+use crate::run;
+use outside_ports::{MemoryShelf, MemorySink};
+use std::alloc::{AllocError, Global};
+use std::process::Abort;
+use std::test::Fail;
+
+const ELEMENTS: &[u8] =
+    b"symbol,number,mass,abundance,valence\ne-,0,0.000548579909,0,0\nH,1,1.00782503223,0.999885,1\nH,2,2.01410177812,0.000115,1\nC,12,12,0.9893,4\nC,13,13.00335483507,0.0107,4\nO,16,15.99491461957,0.99757,2\nO,17,16.99913175650,0.00038,2\nO,18,17.99915961286,0.00205,2\n";
+
+const AB: &[u8] =
+    b"symbol,number,mass,abundance,valence\ne-,0,0.000548579909,0,0\nA,10,10,1,1\nB,10,10.00001,1,1\n";
+
+const AB_REPORT: &[u8] =
+    b"decompose 1\npeak 1 10.000000000000\nformula A 10.000000000000 10.000000000000 0\nformula B 10.000010000000 10.000010000000 10000000\n";
+
+/// What a run is given, and what it must answer.
+#[derive(Clone, Copy)]
+struct Case {
+    mass: &'static str,
+    da: &'static str,
+    alphabet: &'static str,
+    table: &'static [u8],
+    status: u8,
+    out: &'static [u8],
+    note: &'static [u8],
+}
+
+fn decompose_words(
+    alloc: Global,
+    mass: &str,
+    da: &str,
+    alphabet: &str,
+) -> Result<Vec<String>, AllocError> {
+    let mut words = Vec::new(alloc);
+    for word in [
+        "decompose",
+        "--table",
+        "t.csv",
+        "--mass",
+        mass,
+        "--da",
+        da,
+        "--alphabet",
+        alphabet,
+    ] {
+        words.push(String::from_str(alloc, word)?)?;
+    }
+    Ok(words)
+}
+
+fn shelf_with(alloc: Global, table: &[u8]) -> Result<MemoryShelf, AllocError> {
+    let mut shelf = MemoryShelf::new(alloc);
+    shelf.add(String::from_str(alloc, "t.csv")?, table.to_vec(alloc)?)?;
+    Ok(shelf)
+}
+
+fn check_case(rt: &impl Abort, alloc: Global, case: &Case) -> Result<(), AllocError> {
+    let words = decompose_words(alloc, case.mass, case.da, case.alphabet)?;
+    let mut shelf = shelf_with(alloc, case.table)?;
+    let mut out = MemorySink::new(alloc, 4096)?;
+    let mut notes = MemorySink::new(alloc, 4096)?;
+    let status = run(alloc, &words, &mut shelf, &mut out, &mut notes);
+    assert!(rt; status == case.status, "{} {}", case.mass, case.alphabet);
+    assert!(rt; out.bytes() == case.out, "{} {}", case.mass, case.alphabet);
+    assert!(rt;
+        notes.bytes() == case.note,
+        "{} {}",
+        case.mass,
+        case.alphabet
+    );
+    Ok(())
+}
+
+#[test]
+fn answers_of_whole_runs(rt: HostRuntime) -> Result<(), Fail> {
+    let cases = [
+        // The formula of glucose, at tolerance 0.
+        Case {
+            mass: "180.06338810418",
+            da: "0",
+            alphabet: "CHO",
+            table: ELEMENTS,
+            status: 0,
+            out: b"decompose 1\npeak 1 180.063388104180\nformula C6H12O6 180.063388104180 180.063388104180 0\n",
+            note: b"",
+        },
+        // The window reaches below 0, and the empty formula isn't printed.
+        Case {
+            mass: "1",
+            da: "2",
+            alphabet: "CHO",
+            table: ELEMENTS,
+            status: 0,
+            out: b"decompose 1\npeak 1 1.000000000000\nformula H 1.007825032230 1.007825032230 7825032230\nformula H2 2.015650064460 2.015650064460 1015650064460\n",
+            note: b"",
+        },
+        // A formula lies exactly at the tolerance.
+        Case {
+            mass: "10",
+            da: "0.00001",
+            alphabet: "AB",
+            table: AB,
+            status: 0,
+            out: AB_REPORT,
+            note: b"",
+        },
+        // A formula below the mass asked.
+        Case {
+            mass: "10.00001",
+            da: "0.00001",
+            alphabet: "A",
+            table: AB,
+            status: 0,
+            out: b"decompose 1\npeak 1 10.000010000000\nformula A 10.000000000000 10.000000000000 -10000000\n",
+            note: b"",
+        },
+        Case {
+            mass: "0",
+            da: "0",
+            alphabet: "AB",
+            table: AB,
+            status: 2,
+            out: b"",
+            note: b"isoform: value: --mass\n",
+        },
+        Case {
+            mass: "0",
+            da: "11",
+            alphabet: "AQ",
+            table: b"",
+            status: 2,
+            out: b"",
+            note: b"isoform: value: --mass\n",
+        },
+        Case {
+            mass: "20000.000000000001",
+            da: "0",
+            alphabet: "A",
+            table: AB,
+            status: 2,
+            out: b"",
+            note: b"isoform: value: --mass\n",
+        },
+        Case {
+            mass: "10.0000000000001",
+            da: "0",
+            alphabet: "A",
+            table: AB,
+            status: 2,
+            out: b"",
+            note: b"isoform: value: --mass\n",
+        },
+        Case {
+            mass: "10",
+            da: "10.1",
+            alphabet: "AQ",
+            table: b"",
+            status: 2,
+            out: b"",
+            note: b"isoform: value: --da\n",
+        },
+        Case {
+            mass: "10",
+            da: "-1",
+            alphabet: "A",
+            table: AB,
+            status: 2,
+            out: b"",
+            note: b"isoform: words\n",
+        },
+        Case {
+            mass: "",
+            da: "0",
+            alphabet: "A",
+            table: AB,
+            status: 2,
+            out: b"",
+            note: b"isoform: words\n",
+        },
+        // A table and an alphabet with faults: the table comes first.
+        Case {
+            mass: "10",
+            da: "0",
+            alphabet: "AQ",
+            table: b"",
+            status: 3,
+            out: b"",
+            note: b"isoform: table\n",
+        },
+        Case {
+            mass: "10",
+            da: "0",
+            alphabet: "AQ",
+            table: AB,
+            status: 5,
+            out: b"",
+            note: b"isoform: alphabet\n",
+        },
+        Case {
+            mass: "10",
+            da: "0",
+            alphabet: "AA",
+            table: AB,
+            status: 5,
+            out: b"",
+            note: b"isoform: alphabet\n",
+        },
+        Case {
+            mass: "10",
+            da: "0",
+            alphabet: "A2",
+            table: AB,
+            status: 5,
+            out: b"",
+            note: b"isoform: alphabet\n",
+        },
+        Case {
+            mass: "10",
+            da: "0",
+            alphabet: "[10A]",
+            table: AB,
+            status: 5,
+            out: b"",
+            note: b"isoform: alphabet\n",
+        },
+    ];
+    for case in &cases {
+        check_case(&rt, rt.alloc(), case)?;
+    }
+    Ok(())
+}
+
+/// A run on the example of two formulas whose put number `call` takes at most `taken` bytes and
+/// fails: the status, and how many bytes of the report and of the note were received.
+fn run_failing_put(
+    rt: &impl Abort,
+    alloc: Global,
+    call: u64,
+    taken: u64,
+    received: usize,
+) -> Result<(), AllocError> {
+    let words = decompose_words(alloc, "10", "0.00001", "AB")?;
+    let mut shelf = shelf_with(alloc, AB)?;
+    let mut out = MemorySink::new(alloc, 4096)?;
+    out.fail_at(call, taken)?;
+    let mut notes = MemorySink::new(alloc, 4096)?;
+    let status = run(alloc, &words, &mut shelf, &mut out, &mut notes);
+    assert!(rt; status == 8, "put {call}");
+    assert!(rt;
+        received <= AB_REPORT.len() && out.bytes() == &AB_REPORT[..received],
+        "put {call}"
+    );
+    assert!(rt;
+        notes.bytes() == b"isoform: write fault\n".as_slice(),
+        "put {call}"
+    );
+    Ok(())
+}
+
+#[test]
+fn each_put_may_fail(rt: HostRuntime) -> Result<(), Fail> {
+    // The number of a put, how many bytes it takes, and how many were received by then.
+    let cases = [
+        (1, 0, 0),
+        (1, 1, 1),
+        (1, 11, 11),
+        (2, 0, 12),
+        (2, 4, 16),
+        (2, 22, 34),
+        (3, 0, 35),
+        (3, 1, 36),
+        (4, 0, 79),
+        (4, 50, 129),
+    ];
+    for (call, taken, received) in cases {
+        run_failing_put(&rt, rt.alloc(), call, taken, received)?;
+    }
+    Ok(())
+}
+
+#[test]
+fn a_fetch_may_fail_and_a_note_too(rt: HostRuntime) -> Result<(), Fail> {
+    let alloc = rt.alloc();
+    let words = decompose_words(alloc, "10", "0.00001", "AB")?;
+    // The fetch is made to fail; the file is absent.
+    let mut failing = shelf_with(alloc, AB)?;
+    failing.fail_at(1)?;
+    let empty = MemoryShelf::new(alloc);
+    for mut shelf in vec![in alloc; failing, empty]? {
+        let mut out = MemorySink::new(alloc, 4096)?;
+        let mut notes = MemorySink::new(alloc, 4096)?;
+        let status = run(alloc, &words, &mut shelf, &mut out, &mut notes);
+        assert_eq!(rt; status, 7);
+        assert!(rt; out.bytes().is_empty());
+        assert!(rt; notes.bytes() == b"isoform: read fault: t.csv\n".as_slice());
+    }
+    // A note that can't be told changes no status.
+    let mut shelf = MemoryShelf::new(alloc);
+    let mut out = MemorySink::new(alloc, 0)?;
+    let mut notes = MemorySink::new(alloc, 9)?;
+    let status = run(alloc, &words, &mut shelf, &mut out, &mut notes);
+    assert_eq!(rt; status, 7);
+    assert!(rt; notes.bytes() == b"isoform: ".as_slice());
+    Ok(())
+}
+
+/// The status of a run on a table of so many bytes, and the note.
+fn run_on_long_table(
+    rt: &impl Abort,
+    alloc: Global,
+    len: usize,
+    status: u8,
+    note: &[u8],
+) -> Result<(), AllocError> {
+    let words = decompose_words(alloc, "10", "0", "AB")?;
+    let mut shelf = MemoryShelf::new(alloc);
+    shelf.add(
+        String::from_str(alloc, "t.csv")?,
+        vec![in alloc; b'x'; len]?,
+    )?;
+    let mut out = MemorySink::new(alloc, 4096)?;
+    let mut notes = MemorySink::new(alloc, 4096)?;
+    assert!(rt;
+        run(alloc, &words, &mut shelf, &mut out, &mut notes) == status,
+        "{len}"
+    );
+    assert!(rt; out.bytes().is_empty(), "{len}");
+    assert!(rt; notes.bytes() == note, "{len}");
+    Ok(())
+}
+
+#[test]
+fn limits_are_refused_before_anything_is_written(rt: HostRuntime) -> Result<(), Fail> {
+    let alloc = rt.alloc();
+    run_on_long_table(&rt, alloc, 1 << 24, 3, b"isoform: table\n")?;
+    run_on_long_table(
+        &rt,
+        alloc,
+        (1 << 24) + 1,
+        6,
+        b"isoform: limit: file t.csv\n",
+    )?;
+    // 200 atoms of four symbols of one mass: 1,373,701 formulas.
+    let many = Case {
+        mass: "100",
+        da: "0",
+        alphabet: "ABCD",
+        table: b"symbol,number,mass,abundance,valence\ne-,0,0.0005,0,0\nA,1,0.5,1,1\nB,1,0.5,1,1\nC,1,0.5,1,1\nD,1,0.5,1,1\n",
+        status: 6,
+        out: b"",
+        note: b"isoform: limit: candidates of peak 1\n",
+    };
+    check_case(&rt, alloc, &many)?;
+    Ok(())
+}

@@ -1,0 +1,97 @@
+// The request that the program's words make.
+ghost use Rattle.std.specs.Prelude.{◌≡◌, ◌<◌, ◌≤◌, length, map, string_bytes, IfOk};
+ghost use Rattle.std.specs.Str.{bytes_eq};
+ghost use Rattle.isoform.specs.Answering.{seen_through};
+ghost use Rattle.isoform.specs.Words.{word, is_decompose, is_value, gives_option, in_range, decompose_request, request_of};
+ghost use Rattle.isoform.specs.Requested.{requested};
+ghost use Rattle.fixed_decimal.specs.Decimal.{read_decimal};
+
+use crate::refusal::{OptionName, Refusal};
+use crate::request::{DecomposeRequest, GREATEST_MASS, GREATEST_TOLERANCE};
+use fixed_decimal::Fixed;
+
+/// The request of `decompose --table F --mass X --da Y --alphabet S`, in this order. Other words are
+/// refused, and then the first value that is outside its range.
+#[tactic(auto, unfolding(crate::specs::Words::request_of))]
+pub fn request_of(words: &[String]) -> Result<DecomposeRequest<'_>, Refusal>
+    ensures { seen_through requested result ≡ request_of (map string_bytes words.now) }
+{
+    if words.len() == 9 && is_decompose(words) {
+        decompose_request(
+            word(words, 2),
+            word(words, 4),
+            word(words, 6),
+            word(words, 8),
+        )
+    } else {
+        Err(Refusal::Words)
+    }
+}
+
+/// The word at a place.
+fn word(words: &[String], place: usize) -> &String
+    requires { place < length words.now }
+    ensures { string_bytes result.now ≡ word (map string_bytes words.now) place }
+{
+    &words[place]
+}
+
+/// Whether nine words ask for a decomposition.
+fn is_decompose(words: &[String]) -> bool
+    requires { length words.now ≡ 9 }
+    ensures { result ≡ is_decompose (map string_bytes words.now) }
+{
+    word(words, 0).as_str() == "decompose"
+        && gives_option("--table", word(words, 1), word(words, 2))
+        && gives_option("--mass", word(words, 3), word(words, 4))
+        && gives_option("--da", word(words, 5), word(words, 6))
+        && gives_option("--alphabet", word(words, 7), word(words, 8))
+}
+
+/// Whether the word is this option's name, and the one behind it can be a value: it isn't empty and
+/// doesn't begin with a minus sign.
+fn gives_option(name: &str, option: &String, value: &String) -> bool
+    ensures { result ≡ gives_option name.now (string_bytes option.now) (string_bytes value.now) }
+{
+    option.as_str() == name && is_value(value.as_bytes())
+}
+
+fn is_value(word: &[u8]) -> bool
+    ensures { result ≡ is_value word.now }
+{
+    match word {
+        [] => false,
+        [first, ..] => *first != b'-',
+    }
+}
+
+#[tactic(auto, unfolding(crate::specs::Words::decompose_request))]
+fn decompose_request<'w>(
+    table: &'w String,
+    mass: &'w String,
+    da: &'w String,
+    alphabet: &'w String,
+) -> Result<DecomposeRequest<'w>, Refusal>
+    ensures { seen_through requested result
+        ≡ decompose_request (string_bytes table.now) (string_bytes mass.now) (string_bytes da.now) (string_bytes alphabet.now) }
+{
+    let mass = mass_in(OptionName::Mass, 1, GREATEST_MASS, mass.as_bytes())?;
+    let da = mass_in(OptionName::Da, 0, GREATEST_TOLERANCE, da.as_bytes())?;
+    Ok(DecomposeRequest {
+        table,
+        mass,
+        da,
+        alphabet,
+    })
+}
+
+/// The mass that an option's value spells in Da, where it is in this range.
+fn mass_in(option: OptionName, low: u64, high: u64, value: &[u8]) -> Result<u64, Refusal>
+    ensures value { result ≡ in_range option low (read_decimal 12 high value.now) }
+    ensures range { IfOk result (λ mass. (low ≤ mass) × (mass ≤ high)) }
+{
+    match Fixed::<12>::read(value, high) {
+        Ok(mass) if mass.units() >= low => Ok(mass.units()),
+        _ => Err(Refusal::Value(option)),
+    }
+}

@@ -1,0 +1,5 @@
+pub mod Weight
+pub mod Bounds
+pub mod Mode
+pub mod Path
+pub mod Isotopologue

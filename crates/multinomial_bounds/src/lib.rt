@@ -1,0 +1,33 @@
+//! Enclosures of the probabilities of isotopologues, in whole numbers.
+//!
+//! The atoms of an element are drawn one by one, each an isotope with the probability of its weight
+//! over the sum of the element's weights, so the counts of the isotopes have a multinomial
+//! distribution. This crate gives two whole numbers, in units of 10^-18, that the exact probability
+//! of given counts lies between. The likeliest counts, the mode, are found atom by atom (H. Finucan,
+//! "The mode of a multinomial distribution", Biometrika 51, 1964), and all others are reached from
+//! them by moves of one atom between two isotopes (as M. Lacki, M. Startek, D. Valkenborg and
+//! A. Gambin do in "IsoSpec: Hyperfast Fine Structure Calculator", Analytical Chemistry 89, 2017).
+//!
+//! The weights of an element are those of its isotopes with a positive abundance, in any one unit:
+//! 1 to 16 of them, each from 1 to 10^12. Isotopes of abundance 0 are left out by the caller. An
+//! element has at most 10,000 atoms.
+#![tactic(auto)]
+
+mod enclosure;
+mod mode;
+mod moves;
+mod path;
+mod product;
+mod spread;
+
+pub use enclosure::{CERTAINTY, Enclosure};
+pub use mode::{is_mode, mode_of};
+pub use moves::move_down;
+pub use path::enclose;
+pub use product::times;
+pub use spread::Spread;
+
+#[cfg(test)]
+mod exact;
+#[cfg(test)]
+mod tests;
