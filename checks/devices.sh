@@ -1,0 +1,53 @@
+#!/usr/bin/env bash
+# The built program at real devices: what only a run can show. Ends with 0 where each check passed.
+set -u
+root=$(cd "$(dirname "$0")/.." && pwd)
+place=$(mktemp -d)
+trap 'rm -rf "$place"' EXIT
+cd "$place" || exit 1
+cp "$root/examples/ab.csv" .
+mkdir folder
+passed=0
+failed=0
+
+# expect STATUS NOTE WHAT COMMAND..: runs the command and compares its status and its note.
+expect() {
+    local status=$1 note=$2 what=$3 got
+    shift 3
+    "$@" 2>note
+    got=$?
+    if [ "$got" = "$status" ] && [ "$(cat note)" = "$note" ]; then
+        passed=$((passed + 1))
+    else
+        failed=$((failed + 1))
+        echo "$what: status $got and '$(cat note)' in place of $status and '$note'"
+    fi
+}
+
+decompose() {
+    "$root/isoform" decompose --table "$1" --mass 10 --da 0.00001 --alphabet AB
+}
+to_file() { decompose ab.csv >out; }
+to_closed() { decompose ab.csv >&-; }
+to_full() { decompose ab.csv >/dev/full; }
+other_note() { decompose absent.csv 2>/dev/full; }
+of() { decompose "$1" >out; }
+
+to_file 2>build || cat build
+expect 0 "" "a report" to_file
+if [ "$(cat out)" != "$(printf 'decompose 1\npeak 1 10.000000000000\nformula A 10.000000000000 10.000000000000 0\nformula B 10.000010000000 10.000010000000 10000000')" ]; then
+    failed=$((failed + 1))
+    echo "a report: $(cat out)"
+fi
+expect 8 "isoform: write fault" "standard output closed" to_closed
+expect 8 "isoform: write fault" "standard output full" to_full
+expect 7 "isoform: read fault: absent.csv" "a file that is not there" of absent.csv
+expect 7 "isoform: read fault: folder" "a folder as a file" of folder
+expect 7 "" "standard error full" other_note
+expect 2 "isoform: words" "no words" "$root/isoform"
+expect 2 "isoform: words" "a word that is no text" "$root/isoform" decompose --table $'\xff' --mass 10 --da 0 --alphabet AB
+head -c 16777217 /dev/zero >long.csv
+expect 6 "isoform: limit: file long.csv" "a file that is too long" of long.csv
+
+echo "devices: $passed passed, $failed failed"
+[ "$failed" = 0 ]
