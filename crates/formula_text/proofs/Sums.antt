@@ -15,7 +15,7 @@ use Rattle.std.proofs.lemmas.Bool.{false≢true}
 use Rattle.std.proofs.lemmas.List.Sums.{sum_by-cons, fold_push}
 use Rattle.formula_text.specs.declared.item.Item.{Item}
 use Rattle.formula_text.specs.Items.{item_eq, hill_rank, hill_cmp, carbon_symbol}
-use Rattle.formula_text.specs.Formulas.{count_in, atoms_of, has_carbon, with_part, sum_of, has_many_atoms, has_many_items, within_limits, formula_in, parts_of, formula_of, IsParts, IsFormula, SumsUp, IsSumOf, GivesParts}
+use Rattle.formula_text.specs.Formulas.{count_in, atoms_of, has_carbon, with_part, sum_of, has_many_atoms, has_many_items, within_limits, formula_in, parts_of, formula_of, IsParts, SumsUp, IsSumOf, GivesParts}
 use lib.Pointwise.{bytes_decides}
 use Rattle.std.proofs.Math.Dec.{eqb→eq, eqb_refl}
 use Rattle.std.proofs.lemmas.Bool.{ltb-true, ltb-false, le-ltb, lt-ltb}

@@ -21,4 +21,6 @@ pub use parts::Parts;
 pub use read::read_formula;
 
 #[cfg(test)]
+mod reading_tests;
+#[cfg(test)]
 mod tests;
