@@ -1,0 +1,10 @@
+pub mod FlatLemmas
+pub mod CompositionLemmas
+pub mod CountsLemmas
+pub mod RowLemmas
+pub mod ProductLemmas
+pub mod ListingLemmas
+pub mod PlaceLemmas
+pub mod CountLemmas
+pub mod OrderLaws
+pub mod MemberLaws

@@ -1,0 +1,31 @@
+//! The counts that a number of atoms may have over the isotopes of an element.
+
+ghost use Rattle.std.specs.Prelude.{◌≡◌, ◌+◌, ◌-◌, ◌^◌, ◌<◌, ◌++◌, length, take, flat_map, IfOk};
+ghost use Rattle.isotopologue_list.specs.Compositions.{compositions};
+
+use std::alloc::AllocError;
+
+/// Appends all counts that begin with those before a place and have so many atoms from there on, in
+/// lexicographic order, end to end. The counts from that place on are changed.
+pub(crate) fn append_compositions(
+    counts: &mut [u32],
+    place: usize,
+    atoms: u32,
+    rows: &mut Vec<u32>,
+) -> Result<(), AllocError>
+    requires within { place < length counts.old }
+    requires small { atoms < 2 ^ 32 - 1 }
+    ensures same_front { take place counts.new ≡ take place counts.old }
+    ensures appended { IfOk result (λ _. rows.new.items ≡ rows.old.items
+        ++ flat_map (λ rest. take place counts.old ++ rest) (compositions (length counts.old - place) atoms)) }
+{
+    if place + 1 == counts.len() {
+        counts[place] = atoms;
+        return rows.extend_from_slice(counts);
+    }
+    for first in 0..=atoms {
+        counts[place] = first;
+        append_compositions(counts, place + 1, atoms - first, rows)?;
+    }
+    Ok(())
+}

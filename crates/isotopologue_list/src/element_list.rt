@@ -1,0 +1,104 @@
+//! All counts of one element with their enclosures.
+
+use crate::composition::append_compositions;
+use crate::element::ElementAtoms;
+use multinomial_bounds::{Enclosure, Spread, enclose, mode_of};
+use std::alloc::{AllocError, Global};
+use std::marker::Model;
+
+/// All counts of an element's isotopes in lexicographic order, each with the enclosure of its
+/// probability. The counts stand end to end.
+#[derive(Drop)]
+pub(crate) struct ElementList {
+    places: usize,
+    counts: Vec<u32>,
+    enclosures: Vec<Enclosure>,
+}
+
+impl Model for ElementList {
+    ghost use Rattle.std.specs.Prelude.{◌≡◌, ◌*◌, List, map, length};
+    ghost use Rattle.isotopologue_list.specs.Listed.{BoundedCounts, rows};
+
+    ghost Value = { List BoundedCounts };
+
+    ghost view = { λ l. rows l.places l.counts.items (map (λ e. (e.lo, e.hi)) l.enclosures.items) };
+
+    ghost invariant = { λ l. length l.counts.items ≡ length l.enclosures.items * l.places };
+}
+
+impl ElementList {
+    ghost use Rattle.std.specs.Prelude.{◌≡◌, ◌<◌, ◌≤◌, IfOk, map, length, slice_index_or};
+    ghost use Rattle.multinomial_bounds.specs.Weight.{IsWeights};
+    ghost use Rattle.isotopologue_list.specs.Compositions.{counts_of};
+    ghost use Rattle.isotopologue_list.specs.Listed.{BoundedCounts, bounded_counts};
+
+    /// All counts of an element.
+    pub(crate) fn of(alloc: Global, element: &ElementAtoms) -> Result<ElementList, AllocError>
+        ensures all { IfOk result (λ l. l ≡ map (bounded_counts element.now.weights) (counts_of element.now)) }
+        ensures weights_in_range { IsWeights element.now.weights }
+    {
+        let weights = element.weights();
+        let places = weights.len();
+        let mut first = vec![in alloc; 0u32; places]?;
+        let mut counts = Vec::new(alloc);
+        append_compositions(&mut first, 0, element.atoms(), &mut counts)?;
+        let enclosures = enclosures_of(alloc, weights, element.atoms(), &counts)?;
+        Ok(ElementList {
+            places,
+            counts,
+            enclosures,
+        })
+    }
+
+    /// How many counts there are.
+    pub(crate) fn len(&self) -> usize
+        ensures { result ≡ length self.now }
+    {
+        self.enclosures.len()
+    }
+
+    /// The counts at a place.
+    pub(crate) fn counts(&self, place: usize) -> &[u32]
+        requires { place < length self.now }
+        ensures { (d : BoundedCounts) → result.now ≡ (slice_index_or self.now place d).counts }
+    {
+        let counts = self.counts.as_slice();
+        let from = place * self.places;
+        &counts[from..from + self.places]
+    }
+
+    /// The enclosure at a place.
+    pub(crate) fn enclosure(&self, place: usize) -> Enclosure
+        requires { place < length self.now }
+        ensures lo { (d : BoundedCounts) → result.lo ≡ (slice_index_or self.now place d).lo }
+        ensures hi { (d : BoundedCounts) → result.hi ≡ (slice_index_or self.now place d).hi }
+    {
+        self.enclosures[place]
+    }
+}
+
+ghost use Rattle.std.specs.Prelude.{◌≡◌, ◌≤◌, ℕ, IfOk, length, map, flat_map};
+ghost use Rattle.multinomial_bounds.specs.Weight.{IsWeights};
+ghost use Rattle.isotopologue_list.specs.Compositions.{compositions};
+ghost use Rattle.isotopologue_list.specs.Listed.{ends_of_counts};
+
+// The enclosures of all counts, which stand end to end.
+fn enclosures_of(
+    alloc: Global,
+    weights: &[u64],
+    atoms: u32,
+    counts: &[u32],
+) -> Result<Vec<Enclosure>, AllocError>
+    requires weights_in_range { IsWeights weights.now }
+    requires few_atoms { atoms ≤ 10000 }
+    requires all { counts.now ≡ flat_map (λ c. c) (compositions (length weights.now) atoms) }
+    ensures { IfOk result (λ es. map {B = ℕ × ℕ} (λ e. (e.lo, e.hi)) es.items
+        ≡ map (ends_of_counts weights.now) (compositions (length weights.now) atoms)) }
+{
+    let (mode, _) = mode_of(alloc, weights, atoms)?;
+    let mut enclosures = Vec::new(alloc);
+    for row in counts.chunks_exact(weights.len()) {
+        enclosures.push(enclose(alloc, weights, &mode, row)?)?;
+    }
+    Ok(enclosures)
+}
