@@ -163,7 +163,7 @@ impl<'t> Decomps<'t> {
         ensures unchanged { OnFalse result (self.new ≡ self.old) }
         ensures out_unchanged { OnFalse result (out.new ≡ out.old) }
         ensures length { length out.new ≡ length out.old }
-        ensures nosteps { steps.new ≡ steps.old }
+        ensures steps_unchanged { steps.new ≡ steps.old }
     {
         if !self.find_left(&mut out.counts) {
             return false;

@@ -50,9 +50,7 @@ fn write_lines<O: Sink>(report: &[u8], out: &mut O) -> Result<(), Failed>
     let mut rest = report;
     while !rest.is_empty() {
         let (line, others) = rest.split_at(line_len(rest));
-        if let Err(failed) = out.put(line) {
-            return Err(failed);
-        }
+        out.put(line)?;
         rest = others;
     }
     Ok(())
@@ -83,18 +81,9 @@ fn serve_request<H: Shelf, O: Sink>(
         (outside (H.asked shelf.old) (H.faults shelf.old) (O.written out.old) (O.faults out.old))
         (outside (H.asked shelf.new) (H.faults shelf.new) (O.written out.new) (O.faults out.new)) result) }
 {
-    let bytes = match fetch_table(alloc, request.table, shelf) {
-        Ok(bytes) => bytes,
-        Err(refusal) => return Err(refusal),
-    };
-    let report = match report_of(alloc, request, &bytes) {
-        Ok(report) => report,
-        Err(refusal) => return Err(refusal),
-    };
-    match write_lines(&report, out) {
-        Ok(()) => Ok(()),
-        Err(Failed) => Err(Refusal::WriteFault),
-    }
+    let bytes = fetch_table(alloc, request.table, shelf)?;
+    let report = report_of(alloc, request, &bytes)?;
+    write_lines(&report, out).map_err(|_| Refusal::WriteFault)
 }
 
 /// Serves the words: what they ask for, or why it is refused.
@@ -110,10 +99,8 @@ fn serve<H: Shelf, O: Sink>(
         (outside (H.asked shelf.old) (H.faults shelf.old) (O.written out.old) (O.faults out.old))
         (outside (H.asked shelf.new) (H.faults shelf.new) (O.written out.new) (O.faults out.new)) result) }
 {
-    match request_of(words) {
-        Ok(request) => serve_request(alloc, &request, shelf, out),
-        Err(refusal) => Err(refusal),
-    }
+    let request = request_of(words)?;
+    serve_request(alloc, &request, shelf, out)
 }
 
 /// The name of the table file, where the words ask for one.

@@ -1,15 +1,18 @@
 use Rattle.std.proofs.Common.{◌++◌, ◌∙◌}
+use Rattle.std.proofs.lemmas.Result.{err_from_is_err_and}
 use Rattle.isoform.proofs.PutParts.{put_more, put_some, parts_more, two_parts}
 use Rattle.isoform.proofs.run.write_lines.Goals as goal
 
-pub returns-in-Err-clause-written : goal.returns-in-Err-clause-written
-returns-in-Err-clause-written g c =
+pub returns-in_err-put-clause-written : goal.returns-in_err-put-clause-written
+returns-in_err-put-clause-written g c =
     let rest = c.loop-rest.rest.now in
     let line = c.split_at.result.0.now in
     let others = c.split_at.result.1.now in
     let split = two_parts rest line others c.line_len.result c.split_at.ensures.front c.split_at.ensures.back in
-    let some = c.in-Err.ensures.written in
-    put_some _ _ _ c.loop-rest.invariant.0 rest c.args.report.now line others some.0 c.loop-rest.invariant.1 split c.loop-rest.invariant.2 some.1 some.2
+    let some = c.in_err-put.ensures.written in
+    let given = err_from_is_err_and c.from_residual.result c.from_residual.ensures.1 in
+    rw given.1
+    (put_some _ _ _ c.loop-rest.invariant.0 rest c.args.report.now line others some.0 c.loop-rest.invariant.1 split c.loop-rest.invariant.2 some.1 some.2)
 
 pub loop-rest-preserved : goal.loop-rest-preserved
 loop-rest-preserved g c =
@@ -19,6 +22,6 @@ loop-rest-preserved g c =
     let split = two_parts rest line others c.line_len.result c.split_at.ensures.front c.split_at.ensures.back in (
       c.loop-rest.invariant.0 ++ line,
       parts_more c.loop-rest.invariant.0 rest c.args.report.now line others c.loop-rest.invariant.1 split,
-      put_more _ _ _ c.loop-rest.invariant.0 line c.loop-rest.invariant.2 c.in_default.ensures.written,
-      c.in_default.ensures.faults ∙ c.loop-rest.invariant.3,
+      put_more _ _ _ c.loop-rest.invariant.0 line c.loop-rest.invariant.2 c.in_ok-put.ensures.written,
+      c.in_ok-put.ensures.faults ∙ c.loop-rest.invariant.3,
     )
