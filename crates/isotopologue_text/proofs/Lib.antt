@@ -1,0 +1,4 @@
+pub mod Found
+pub mod CountsLemmas
+pub mod Weights
+pub mod Splits

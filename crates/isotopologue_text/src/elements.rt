@@ -1,0 +1,55 @@
+//! The elements of a formula.
+ghost use Rattle.std.specs.Prelude.{◌≡◌, ◌≤◌, ◌<◌, All, IfOk, length, map};
+ghost use Rattle.element_table.specs.Elements.{IsIsotope, total_weight};
+ghost use Rattle.formula_text.specs.Masses.{HasItems};
+ghost use Rattle.isotopologue_text.specs.Isotopologues.{isotopes_that_occur, formula_elements};
+
+use crate::isotopes::isotopes_of;
+use element_table::{Isotope, Table};
+use formula_text::Formula;
+use isotopologue_list::ElementAtoms;
+use std::alloc::{AllocError, Global};
+
+/// The abundances of the isotopes that occur.
+fn weights_of(alloc: Global, isotopes: &[Isotope]) -> Result<Vec<u64>, AllocError>
+    ensures { IfOk result (λ v. v.items ≡ map (λ i. i.weight) (isotopes_that_occur isotopes.now)) }
+{
+    isotopes
+        .iter()
+        .filter(|i| i.weight > 0)
+        .map(|i| i.weight)
+        .collect(alloc)
+}
+
+/// So many atoms of an element of these isotopes.
+fn element_of(alloc: Global, isotopes: &[Isotope], atoms: u32) -> Result<ElementAtoms, AllocError>
+    requires few_isotopes { length isotopes.now ≤ 16 }
+    requires isotopes { All IsIsotope isotopes.now }
+    requires weighted { 0 < total_weight isotopes.now }
+    requires few_atoms { atoms ≤ 10000 }
+    ensures { IfOk result (λ e. e ≡
+        record { weights = map (λ i. i.weight) (isotopes_that_occur isotopes.now); atoms = atoms }) }
+{
+    let weights = weights_of(alloc, isotopes)?;
+    ElementAtoms::of(alloc, &weights, atoms)
+}
+
+/// The elements whose isotopologues a formula has: of each item without a label, in the formula's order,
+/// the abundances of the isotopes that occur in 10^-9, by rising mass number, and the item's atoms.
+pub fn elements_of(
+    alloc: Global,
+    table: &Table,
+    formula: &Formula,
+) -> Result<Vec<ElementAtoms>, AllocError>
+    requires { HasItems table.now formula.now }
+    ensures { IfOk result (λ v. v.items ≡ formula_elements table.now formula.now) }
+{
+    let mut elements = Vec::new(alloc);
+    let items = formula.items();
+    for (item, atoms) in items {
+        if item.label == 0 {
+            elements.push(element_of(alloc, isotopes_of(table, item), *atoms)?)?;
+        }
+    }
+    Ok(elements)
+}

@@ -1,0 +1,21 @@
+//! The isotopologues of a formula: the elements whose isotopes they count, and the text and the mass of
+//! each.
+//!
+//! An isotopologue is given by its counts: of each element of the formula's items without a label, in
+//! the formula's order, the counts of its isotopes of positive abundance, by rising mass number. Those
+//! of an element sum to its atoms. [`is_isotopologue`] tells which counts are such.
+#![tactic(auto)]
+
+mod counts;
+mod elements;
+mod isotopes;
+mod mass;
+mod text;
+
+pub use counts::is_isotopologue;
+pub use elements::elements_of;
+pub use mass::isotopologue_mass;
+pub use text::isotopologue_text;
+
+#[cfg(test)]
+mod tests;
