@@ -1,5 +1,5 @@
 #!/usr/bin/env bash
-# The built program at real devices: what only a run can show. Ends with 0 where each check passed.
+# The built program at real devices and over hostile tables. Ends with 0 where each check passed.
 set -u
 root=$(cd "$(dirname "$0")/.." && pwd)
 place=$(mktemp -d)
@@ -49,5 +49,33 @@ expect 2 "isoform: words" "a word that is no text" "$root/isoform" decompose --t
 head -c 16777217 /dev/zero >long.csv
 expect 6 "isoform: limit: file long.csv" "a file that is too long" of long.csv
 
-echo "devices: $passed passed, $failed failed"
+# Hostile tables. Each isotope and each element but one is within the limits.
+head='symbol,number,mass,abundance,valence\ne-,0,0.0005,0,0\n'
+isotopes() {
+    printf "$head"
+    for number in $(seq 1 "$1"); do echo "A,$number,$number,0.01,1"; done
+    echo B,1,10.00001,1,1
+}
+elements() {
+    printf "${head}A,1,10,1,1\nB,1,10.00001,1,1\n"
+    for name in {C..H}{a..z}; do echo "$name,1,20,1,1"; done | head -n $(($1 - 2))
+}
+isotopes 16 >isotopes16.csv
+isotopes 17 >isotopes17.csv
+elements 120 >elements120.csv
+elements 121 >elements121.csv
+: >empty.csv
+{ printf "$head" && head -c 1000000 /dev/zero | tr '\0' A && echo ,1,10,1,1; } >wide.csv
+expect 0 "" "16 isotopes" of isotopes16.csv
+expect 3 "isoform: table" "17 isotopes" of isotopes17.csv
+expect 0 "" "120 elements" of elements120.csv
+expect 3 "isoform: table" "121 elements" of elements121.csv
+expect 3 "isoform: table" "an empty table" of empty.csv
+expect 3 "isoform: table" "a field of a million bytes" of wide.csv
+
+symbols() { "$root/isoform" decompose --table elements120.csv --mass 10 --da 0 --alphabet "$1" >out; }
+expect 0 "" "20 symbols" symbols "$(printf %s C{a..t})"
+expect 5 "isoform: alphabet" "21 symbols" symbols "$(printf %s C{a..u})"
+
+echo "program: $passed passed, $failed failed"
 [ "$failed" = 0 ]
