@@ -9,19 +9,23 @@ use Rattle.std.proofs.lemmas.List.FromFn.{length-range_with_len, get_or-range_wi
 use Rattle.std.proofs.lemmas.List.Sums.{sum_by-cons, sum_by_push, position_or_len_is}
 use Rattle.multinomial_bounds.specs.Bounds.{certainty}
 use Rattle.multinomial_bounds.specs.declared.enclosure.Enclosure.{Enclosure}
-use Rattle.reaching_cover.specs.Cover.{lo_at, hi_at, lo_total, halves, cover_size_of, AreEnclosed, ReachesInExactWeights}
+use Rattle.reaching_cover.specs.Cover.{bounds_of, lo_at, hi_at, lo_total, halves, cover_size_of, AreEnclosed, ReachesInExactWeights}
 
-pub lo_at-place : (enclosures : List Enclosure) (place : ℕ) (d : Enclosure) → place < length enclosures → lo_at enclosures place ≡ (get_or enclosures place d).lo
-lo_at-place enclosures place d h = get_or-map (λ e. e.lo) enclosures place d 0 h
+pub lo_at-place : (enclosures : List Enclosure) (place : ℕ) (d : Enclosure) → place < length enclosures → lo_at (bounds_of enclosures) place ≡ (get_or enclosures place d).lo
+lo_at-place enclosures place d h =
+    get_or-map (λ (b : ℕ × ℕ). b.0) (bounds_of enclosures) place (d.lo, d.hi) 0 (rw length-map h)
+    ∙ ap (λ (b : ℕ × ℕ). b.0) (get_or-map (λ (e : Enclosure). (e.lo, e.hi)) enclosures place d (d.lo, d.hi) h)
 
-pub hi_at-place : (enclosures : List Enclosure) (place : ℕ) (d : Enclosure) → place < length enclosures → hi_at enclosures place ≡ (get_or enclosures place d).hi
-hi_at-place enclosures place d h = get_or-map (λ e. e.hi) enclosures place d 0 h
+pub hi_at-place : (enclosures : List Enclosure) (place : ℕ) (d : Enclosure) → place < length enclosures → hi_at (bounds_of enclosures) place ≡ (get_or enclosures place d).hi
+hi_at-place enclosures place d h =
+    get_or-map (λ (b : ℕ × ℕ). b.1) (bounds_of enclosures) place (d.lo, d.hi) 0 (rw length-map h)
+    ∙ ap (λ (b : ℕ × ℕ). b.1) (get_or-map (λ (e : Enclosure). (e.lo, e.hi)) enclosures place d (d.lo, d.hi) h)
 
 -- ---- layers, place by place
 
 -- the members of a layer among the first places
-abbrev pub layer_below : List Enclosure → ℕ → ℕ → List ℕ
-layer_below enclosures threshold n = filter (λ place. ltb threshold (hi_at enclosures place)) (range_with_len 0 n)
+abbrev pub layer_below : List (ℕ × ℕ) → ℕ → ℕ → List ℕ
+layer_below bounds threshold n = filter (λ place. ltb threshold (hi_at bounds place)) (range_with_len 0 n)
 
 range_more : (a n : ℕ) → range_with_len a (suc n) ≡ range_with_len a n ++ (a + n) ∷ []
 range_more a zero = rw add-zero refl
@@ -29,35 +33,35 @@ range_more a (suc n) =
     let shift : (a + 1) + n ≡ a + suc n = omega arith in
     ap (λ xs. a ∷ xs) (range_more (a + 1) n ∙ ap (λ m. range_with_len (a + 1) n ++ m ∷ []) shift)
 
-pub layer_more : (enclosures : List Enclosure) (threshold n : ℕ) →
-    layer_below enclosures threshold (n + 1) ≡ layer_below enclosures threshold n ++ cond (ltb threshold (hi_at enclosures n)) (n ∷ []) []
-layer_more enclosures threshold n =
-    let p : ℕ → Bool = λ place. ltb threshold (hi_at enclosures place) in
+pub layer_more : (bounds : List (ℕ × ℕ)) (threshold n : ℕ) →
+    layer_below bounds threshold (n + 1) ≡ layer_below bounds threshold n ++ cond (ltb threshold (hi_at bounds n)) (n ∷ []) []
+layer_more bounds threshold n =
+    let p : ℕ → Bool = λ place. ltb threshold (hi_at bounds place) in
     let here : 0 + n ≡ n = omega arith in
     rw add-one (ap (filter p) (range_more 0 n ∙ ap (λ m. range_with_len 0 n ++ m ∷ []) here) ∙ filter-append p (range_with_len 0 n) (n ∷ []))
 
 -- the step of a loop over the enclosures: the one at n is in the layer, or it isn't
 pub layer_takes : (enclosures : List Enclosure) (threshold n : ℕ) (e : Enclosure) → n < length enclosures → e ≡ get_or enclosures n e →
-    threshold < e.hi → layer_below enclosures threshold (n + 1) ≡ layer_below enclosures threshold n ++ n ∷ []
+    threshold < e.hi → layer_below (bounds_of enclosures) threshold (n + 1) ≡ layer_below (bounds_of enclosures) threshold n ++ n ∷ []
 layer_takes enclosures threshold n e within at above =
-    let hi : hi_at enclosures n ≡ e.hi = hi_at-place enclosures n e within ∙ ap (λ x. x.hi) (sym at) in
-    let taken : ltb threshold (hi_at enclosures n) ≡ true = lt-ltb threshold (hi_at enclosures n) (omega arith) in
-    layer_more enclosures threshold n ∙ ap (λ b. layer_below enclosures threshold n ++ cond b (n ∷ []) []) taken
+    let hi : hi_at (bounds_of enclosures) n ≡ e.hi = hi_at-place enclosures n e within ∙ ap (λ x. x.hi) (sym at) in
+    let taken : ltb threshold (hi_at (bounds_of enclosures) n) ≡ true = lt-ltb threshold (hi_at (bounds_of enclosures) n) (omega arith) in
+    layer_more (bounds_of enclosures) threshold n ∙ ap (λ b. layer_below (bounds_of enclosures) threshold n ++ cond b (n ∷ []) []) taken
 
 pub layer_passes : (enclosures : List Enclosure) (threshold n : ℕ) (e : Enclosure) → n < length enclosures → e ≡ get_or enclosures n e →
-    e.hi ≤ threshold → layer_below enclosures threshold (n + 1) ≡ layer_below enclosures threshold n
+    e.hi ≤ threshold → layer_below (bounds_of enclosures) threshold (n + 1) ≡ layer_below (bounds_of enclosures) threshold n
 layer_passes enclosures threshold n e within at below =
-    let hi : hi_at enclosures n ≡ e.hi = hi_at-place enclosures n e within ∙ ap (λ x. x.hi) (sym at) in
-    let passed : ltb threshold (hi_at enclosures n) ≡ false = le-ltb threshold (hi_at enclosures n) (omega arith) in
-    layer_more enclosures threshold n ∙ ap (λ b. layer_below enclosures threshold n ++ cond b (n ∷ []) []) passed ∙ append-nil _
+    let hi : hi_at (bounds_of enclosures) n ≡ e.hi = hi_at-place enclosures n e within ∙ ap (λ x. x.hi) (sym at) in
+    let passed : ltb threshold (hi_at (bounds_of enclosures) n) ≡ false = le-ltb threshold (hi_at (bounds_of enclosures) n) (omega arith) in
+    layer_more (bounds_of enclosures) threshold n ∙ ap (λ b. layer_below (bounds_of enclosures) threshold n ++ cond b (n ∷ []) []) passed ∙ append-nil _
 
 pub total_takes : (enclosures : List Enclosure) (threshold n : ℕ) (e : Enclosure) → n < length enclosures → e ≡ get_or enclosures n e →
-    threshold < e.hi → lo_total enclosures (layer_below enclosures threshold (n + 1)) ≡ lo_total enclosures (layer_below enclosures threshold n) + e.lo
+    threshold < e.hi → lo_total (bounds_of enclosures) (layer_below (bounds_of enclosures) threshold (n + 1)) ≡ lo_total (bounds_of enclosures) (layer_below (bounds_of enclosures) threshold n) + e.lo
 total_takes enclosures threshold n e within at above =
-    let lo : lo_at enclosures n ≡ e.lo = lo_at-place enclosures n e within ∙ ap (λ x. x.lo) (sym at) in
-    let push : lo_total enclosures (layer_below enclosures threshold n ++ n ∷ []) ≡ lo_total enclosures (layer_below enclosures threshold n) + lo_at enclosures n =
-    sum_by_push (lo_at enclosures) (layer_below enclosures threshold n) n in
-    ap (lo_total enclosures) (layer_takes enclosures threshold n e within at above) ∙ push ∙ ap (λ x. lo_total enclosures (layer_below enclosures threshold n) + x) lo
+    let lo : lo_at (bounds_of enclosures) n ≡ e.lo = lo_at-place enclosures n e within ∙ ap (λ x. x.lo) (sym at) in
+    let push : lo_total (bounds_of enclosures) (layer_below (bounds_of enclosures) threshold n ++ n ∷ []) ≡ lo_total (bounds_of enclosures) (layer_below (bounds_of enclosures) threshold n) + lo_at (bounds_of enclosures) n =
+    sum_by_push (lo_at (bounds_of enclosures)) (layer_below (bounds_of enclosures) threshold n) n in
+    ap (lo_total (bounds_of enclosures)) (layer_takes enclosures threshold n e within at above) ∙ push ∙ ap (λ x. lo_total (bounds_of enclosures) (layer_below (bounds_of enclosures) threshold n) + x) lo
 
 -- ---- thresholds
 
@@ -99,46 +103,46 @@ half_is_zero p half t first e left =
 
 -- ---- sizes
 
-pub cover_size_is : (enclosures : List Enclosure) (order : List ℕ) (coverage n : ℕ) → n ≤ length order →
-    ((k : ℕ) → k < n → lo_total enclosures (take k order) < coverage) →
-    (n < length order → coverage ≤ lo_total enclosures (take n order)) → n ≡ cover_size_of enclosures order coverage
-cover_size_is enclosures order coverage n within short enough =
-    let p : ℕ → Bool = λ k. leb coverage (lo_total enclosures (take k order)) in
+pub cover_size_is : (bounds : List (ℕ × ℕ)) (order : List ℕ) (coverage n : ℕ) → n ≤ length order →
+    ((k : ℕ) → k < n → lo_total bounds (take k order) < coverage) →
+    (n < length order → coverage ≤ lo_total bounds (take n order)) → n ≡ cover_size_of bounds order coverage
+cover_size_is bounds order coverage n within short enough =
+    let p : ℕ → Bool = λ k. leb coverage (lo_total bounds (take k order)) in
     let ks : List ℕ = range_with_len 0 (length order) in
     let long : length ks ≡ length order = length-range_with_len 0 (length order) in
     sym (position_or_len_is p ks n 0 (omega arith)
     (λ k h. let at : get_or ks k 0 ≡ 0 + k = get_or-range_with_len 0 (length order) k 0 (omega arith) in
-    let below : lo_total enclosures (take k order) < coverage = short k h in
-    ap p (at ∙ zero-add k) ∙ lt-leb coverage (lo_total enclosures (take k order)) below)
+    let below : lo_total bounds (take k order) < coverage = short k h in
+    ap p (at ∙ zero-add k) ∙ lt-leb coverage (lo_total bounds (take k order)) below)
     (λ h. let at : get_or ks n 0 ≡ 0 + n = get_or-range_with_len 0 (length order) n 0 (omega arith) in
-    let above : coverage ≤ lo_total enclosures (take n order) = enough (omega arith) in
-    ap p (at ∙ zero-add n) ∙ le-leb coverage (lo_total enclosures (take n order)) above))
+    let above : coverage ≤ lo_total bounds (take n order) = enough (omega arith) in
+    ap p (at ∙ zero-add n) ∙ le-leb coverage (lo_total bounds (take n order)) above))
 
 -- ---- exact weights
 
-part_above : (enclosures : List Enclosure) (parts : List ℕ) (whole place : ℕ) → AreEnclosed enclosures parts whole →
-    lo_at enclosures place * whole ≤ certainty * get_or parts place 0
-part_above enclosures parts whole place enclosed =
-    let P : Type 0 = lo_at enclosures place * whole ≤ certainty * get_or parts place 0 in
-    let Goal : Bool → Type 0 = λ b. ltb place (length enclosures) ≡ b → P in
-    (elim (ltb place (length enclosures)) as Goal [
-      | true ↦ λ e. (enclosed.each place (ltb-true place (length enclosures) e)).from_below
+part_above : (bounds : List (ℕ × ℕ)) (parts : List ℕ) (whole place : ℕ) → AreEnclosed bounds parts whole →
+    lo_at bounds place * whole ≤ certainty * get_or parts place 0
+part_above bounds parts whole place enclosed =
+    let P : Type 0 = lo_at bounds place * whole ≤ certainty * get_or parts place 0 in
+    let Goal : Bool → Type 0 = λ b. ltb place (length bounds) ≡ b → P in
+    (elim (ltb place (length bounds)) as Goal [
+      | true ↦ λ e. (enclosed.each place (ltb-true place (length bounds) e)).from_below
       | false ↦ λ e.
-          let past : length (map (λ (x : Enclosure). x.lo) enclosures) ≤ place = rw length-map (ltb-false place (length enclosures) e) in
-          rw (get_or_past (map (λ (x : Enclosure). x.lo) enclosures) place 0 past) (omega arith)
+          let past : length (map (λ (b : ℕ × ℕ). b.0) bounds) ≤ place = rw length-map (ltb-false place (length bounds) e) in
+          rw (get_or_past (map (λ (b : ℕ × ℕ). b.0) bounds) place 0 past) (omega arith)
     ]) refl
 
-parts_above : (enclosures : List Enclosure) (parts : List ℕ) (whole : ℕ) → AreEnclosed enclosures parts whole →
-    (members : List ℕ) → lo_total enclosures members * whole ≤ certainty * sum_by (λ place. get_or parts place 0) members
-parts_above enclosures parts whole enclosed [] = omega arith
-parts_above enclosures parts whole enclosed (place ∷ members) =
+parts_above : (bounds : List (ℕ × ℕ)) (parts : List ℕ) (whole : ℕ) → AreEnclosed bounds parts whole →
+    (members : List ℕ) → lo_total bounds members * whole ≤ certainty * sum_by (λ place. get_or parts place 0) members
+parts_above bounds parts whole enclosed [] = omega arith
+parts_above bounds parts whole enclosed (place ∷ members) =
     let part : ℕ → ℕ = λ k. get_or parts k 0 in
-    let first : lo_at enclosures place * whole ≤ certainty * part place = part_above enclosures parts whole place enclosed in
-    let rest : lo_total enclosures members * whole ≤ certainty * sum_by part members = parts_above enclosures parts whole enclosed members in
-    rw (sum_by-cons (lo_at enclosures) place members, sum_by-cons part place members) (omega arith)
+    let first : lo_at bounds place * whole ≤ certainty * part place = part_above bounds parts whole place enclosed in
+    let rest : lo_total bounds members * whole ≤ certainty * sum_by part members = parts_above bounds parts whole enclosed members in
+    rw (sum_by-cons (lo_at bounds) place members, sum_by-cons part place members) (omega arith)
 
-pub exact_weights_reach : (enclosures : List Enclosure) (members : List ℕ) (coverage : ℕ) →
-    coverage ≤ lo_total enclosures members → ReachesInExactWeights enclosures members coverage
-exact_weights_reach enclosures members coverage reached parts whole enclosed =
-    let below : lo_total enclosures members * whole ≤ certainty * sum_by (λ place. get_or parts place 0) members = parts_above enclosures parts whole enclosed members in
+pub exact_weights_reach : (bounds : List (ℕ × ℕ)) (members : List ℕ) (coverage : ℕ) →
+    coverage ≤ lo_total bounds members → ReachesInExactWeights bounds members coverage
+exact_weights_reach bounds members coverage reached parts whole enclosed =
+    let below : lo_total bounds members * whole ≤ certainty * sum_by (λ place. get_or parts place 0) members = parts_above bounds parts whole enclosed members in
     grind arith

@@ -1,7 +1,7 @@
 //! The members of a layer in the cover's order.
 
 ghost use Rattle.std.specs.Prelude.{◌≡◌, IfOk};
-ghost use Rattle.reaching_cover.specs.Cover.{layer, stands_before, cover_order_of, IsTheOrder};
+ghost use Rattle.reaching_cover.specs.Cover.{bounds_of, layer, stands_before, cover_order_of, IsTheOrder};
 
 use crate::lower::lo_of;
 use multinomial_bounds::Enclosure;
@@ -39,9 +39,9 @@ pub fn cover_order(
     enclosures: &[Enclosure],
     threshold: u64,
 ) -> Result<Places, AllocError>
-    ensures value { IfOk result (λ places. places ≡ cover_order_of enclosures.now threshold) }
-    ensures only { IsTheOrder (stands_before enclosures.now)
-        (layer enclosures.now threshold) (cover_order_of enclosures.now threshold) }
+    ensures value { IfOk result (λ places. places ≡ cover_order_of (bounds_of enclosures.now) threshold) }
+    ensures only { IsTheOrder (stands_before (bounds_of enclosures.now))
+        (layer (bounds_of enclosures.now) threshold) (cover_order_of (bounds_of enclosures.now) threshold) }
 {
     let mut places = layer_places(alloc, enclosures, threshold)?;
     places.sort_by_cached_key(|place| (Reverse(lo_of(enclosures, *place)), *place))?;
@@ -54,7 +54,7 @@ fn layer_places(
     enclosures: &[Enclosure],
     threshold: u64,
 ) -> Result<Vec<usize>, AllocError>
-    ensures { IfOk result (λ places. places.items ≡ layer enclosures.now threshold) }
+    ensures { IfOk result (λ places. places.items ≡ layer (bounds_of enclosures.now) threshold) }
 {
     let mut places = Vec::new(alloc);
     for (place, enclosure) in enclosures.iter().enumerate() {

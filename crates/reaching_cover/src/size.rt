@@ -1,7 +1,7 @@
 //! The size of a cover.
 
 ghost use Rattle.std.specs.Prelude.{◌≡◌, ℕ, ◌<◌, ◌≤◌, take};
-ghost use Rattle.reaching_cover.specs.Cover.{lo_total, cover_size_of, ReachesInExactWeights};
+ghost use Rattle.reaching_cover.specs.Cover.{bounds_of, lo_total, cover_size_of, ReachesInExactWeights};
 
 use crate::lower::lo_of;
 use multinomial_bounds::Enclosure;
@@ -12,12 +12,12 @@ use multinomial_bounds::Enclosure;
 ///
 /// Where the lower bounds reach the coverage, the exact probabilities do.
 pub fn cover_size(enclosures: &[Enclosure], order: &[usize], coverage: u64) -> usize
-    ensures value { result ≡ cover_size_of enclosures.now order.now coverage }
-    ensures least { (n : ℕ) → n < result → lo_total enclosures.now (take n order.now) < coverage }
-    ensures reached { coverage ≤ lo_total enclosures.now order.now →
-        coverage ≤ lo_total enclosures.now (take result order.now) }
-    ensures exact { coverage ≤ lo_total enclosures.now (take result order.now) →
-        ReachesInExactWeights enclosures.now (take result order.now) coverage }
+    ensures value { result ≡ cover_size_of (bounds_of enclosures.now) order.now coverage }
+    ensures least { (n : ℕ) → n < result → lo_total (bounds_of enclosures.now) (take n order.now) < coverage }
+    ensures reached { coverage ≤ lo_total (bounds_of enclosures.now) order.now →
+        coverage ≤ lo_total (bounds_of enclosures.now) (take result order.now) }
+    ensures exact { coverage ≤ lo_total (bounds_of enclosures.now) (take result order.now) →
+        ReachesInExactWeights (bounds_of enclosures.now) (take result order.now) coverage }
 {
     let wanted = u128::from(coverage);
     let mut total: u128 = 0;

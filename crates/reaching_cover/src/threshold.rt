@@ -1,7 +1,7 @@
 //! The threshold of the reaching layer.
 
 ghost use Rattle.std.specs.Prelude.{◌≡◌, ◌≤◌};
-ghost use Rattle.reaching_cover.specs.Cover.{lo_total, layer, reaching_threshold_of};
+ghost use Rattle.reaching_cover.specs.Cover.{bounds_of, lo_total, layer, reaching_threshold_of};
 
 use multinomial_bounds::Enclosure;
 
@@ -14,9 +14,9 @@ const HALVES: u32 = 60;
 ///
 /// `mode` encloses the probability of a likeliest isotopologue.
 pub fn reaching_threshold(enclosures: &[Enclosure], mode: Enclosure, coverage: u64) -> u64
-    ensures value { result ≡ reaching_threshold_of enclosures.now mode.hi coverage }
-    ensures reaches { coverage ≤ lo_total enclosures.now (layer enclosures.now 0) →
-        coverage ≤ lo_total enclosures.now (layer enclosures.now result) }
+    ensures value { result ≡ reaching_threshold_of (bounds_of enclosures.now) mode.hi coverage }
+    ensures reaches { coverage ≤ lo_total (bounds_of enclosures.now) (layer (bounds_of enclosures.now) 0) →
+        coverage ≤ lo_total (bounds_of enclosures.now) (layer (bounds_of enclosures.now) result) }
 {
     let mut threshold = mode.hi;
     for _half in 0..HALVES {
@@ -34,7 +34,7 @@ pub fn reaching_threshold(enclosures: &[Enclosure], mode: Enclosure, coverage: u
 /// What the isotopologues with an upper bound above the threshold have together at least. Fewer than
 /// 2^64 bounds of at most 10^18 total less than 2^124.
 fn layer_total(enclosures: &[Enclosure], threshold: u64) -> u128
-    ensures { result ≡ lo_total enclosures.now (layer enclosures.now threshold) }
+    ensures { result ≡ lo_total (bounds_of enclosures.now) (layer (bounds_of enclosures.now) threshold) }
 {
     let mut total: u128 = 0;
     for enclosure in enclosures {
