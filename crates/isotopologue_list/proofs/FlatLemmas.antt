@@ -33,7 +33,7 @@ pub flat_map_push : {A B : Type 0} (f : A → List B) (xs : List A) (x : A) →
     flat_map f (xs ++ x ∷ []) ≡ flat_map f xs ++ f x
 flat_map_push f xs x = flat_map_append f xs (x ∷ []) ∙ ap (λ ys. flat_map f xs ++ ys) (append_none (f x))
 
-range_push : (a n : ℕ) → range_with_len a (n + 1) ≡ range_with_len a n ++ (a + n) ∷ []
+pub range_push : (a n : ℕ) → range_with_len a (n + 1) ≡ range_with_len a n ++ (a + n) ∷ []
 range_push a zero = let e : a + 0 ≡ a = omega arith in rw e refl
 range_push a (suc n) =
     let e : suc n + 1 ≡ suc (n + 1) = omega arith in

@@ -8,3 +8,6 @@ pub mod PlaceLemmas
 pub mod CountLemmas
 pub mod OrderLaws
 pub mod MemberLaws
+pub mod ParentLemmas
+pub mod SearchLemmas
+pub mod NearestLemmas

@@ -89,7 +89,7 @@ nat_less x y h = sym (nat_cmp_is x y Less h)
 nat_same : (x : ℕ) → nat_cmp x x ≡ Equal
 nat_same x = sym (nat_cmp_is x x Equal refl)
 
-same_counts : (xs : List ℕ) → slice_cmp nat_cmp xs xs ≡ Equal
+pub same_counts : (xs : List ℕ) → slice_cmp nat_cmp xs xs ≡ Equal
 same_counts [] = refl
 same_counts (x ∷ xs) = ap (λ o. ordering_then o (slice_cmp nat_cmp xs xs)) (nat_same x) ∙ same_counts xs
 

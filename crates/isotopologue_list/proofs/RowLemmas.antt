@@ -1,79 +1,12 @@
 -- Counts that stand end to end, and the enclosures beside them.
-use Rattle.std.proofs.Common.{◌≡◌, ℕ, zero, suc, ◌+◌, ◌-◌, ◌*◌, ◌<◌, ◌≤◌, List, [], ◌∷◌, ◌++◌, map, length, take, drop, get_or, refl, sym, ◌∙◌, ap, subst, arith, All, append_assoc, length-append}
+use Rattle.std.proofs.Common.{◌≡◌, ℕ, zero, suc, ◌+◌, ◌*◌, ◌<◌, ◌≤◌, List, [], ◌∷◌, ◌++◌, map, length, take, drop, get_or, refl, sym, ◌∙◌, ap, arith, All, length-append}
 use Rattle.std.specs.Prelude.{flat_map}
-use Rattle.std.proofs.lemmas.List.{map-append, length-map, drop-drop, get_or-map}
+use Rattle.std.proofs.lemmas.List.{length-map, drop-drop, get_or-map}
 use Rattle.std.proofs.Math.Nat.{mul-le-mul_right}
 use Rattle.std.proofs.Math.Seq.{take-append_seam, drop-append_seam}
 use Rattle.std.proofs.lemmas.List.Elements.{All-head, All-tail}
 use Rattle.multinomial_bounds.specs.Weight.{IsCounts}
-use Rattle.isotopologue_list.specs.Compositions.{compositions}
 use Rattle.isotopologue_list.specs.Listed.{BoundedCounts, bounded_counts, ends_of_counts, rows}
-use Rattle.isotopologue_list.proofs.CountsLemmas.{compositions-IsCounts}
-
--- the counts that are still to be enclosed, after those whose enclosures are known
-pub record LeftRows (ws : List ℕ) (n : ℕ) (done : List (ℕ × ℕ)) (rest : List ℕ) : Type 0 where
-  pub left : List (List ℕ)
-  pub is_rest : rest ≡ flat_map (λ c. c) left
-  pub whole : done ++ map (ends_of_counts ws) left ≡ map (ends_of_counts ws) (compositions (length ws) n)
-  pub are_counts : All (IsCounts ws n) left
-
-pub LeftRows-start : (ws : List ℕ) (n : ℕ) (rest : List ℕ) → rest ≡ flat_map (λ c. c) (compositions (length ws) n) →
-    LeftRows ws n [] rest
-LeftRows-start ws n rest e =
-    record { left = compositions (length ws) n; is_rest = e; whole = refl; are_counts = compositions-IsCounts ws n }
-
-fronts : (a b c d : List ℕ) → length a ≡ length c → a ++ b ≡ c ++ d → (a ≡ c) × (b ≡ d)
-fronts [] b [] d same e = (refl, e)
-fronts [] b (y ∷ c) d same e = absurd (omega arith)
-fronts (x ∷ a) b [] d same e = absurd (omega arith)
-fronts (x ∷ a) b (y ∷ c) d same e =
-    let shorter : length a ≡ length c = omega arith in
-    let tails : a ++ b ≡ c ++ d = cc in
-    let heads : x ≡ y = cc in
-    let both = fronts a b c d shorter tails in
-    (cc, both.1)
-
-next_left : (ws : List ℕ) (n : ℕ) (done : List (ℕ × ℕ)) (row rest : List ℕ) (left : List (List ℕ)) → 1 ≤ length ws →
-    length row ≡ length ws → row ++ rest ≡ flat_map (λ c. c) left →
-    done ++ map (ends_of_counts ws) left ≡ map (ends_of_counts ws) (compositions (length ws) n) →
-    All (IsCounts ws n) left →
-    IsCounts ws n row × LeftRows ws n (done ++ ends_of_counts ws row ∷ []) rest
-next_left ws n done row rest [] some places e whole all =
-    let none : length row + length rest ≡ 0 = sym (length-append row rest) ∙ ap length e in
-    absurd (omega arith)
-next_left ws n done row rest (c ∷ left) some places e whole all =
-    let is : IsCounts ws n c = All-head (IsCounts ws n) c left all in
-    let both = fronts row rest c (flat_map (λ x. x) left) (places ∙ sym is.places_agree) e in
-    let same : c ≡ row = sym both.0 in (
-      subst (IsCounts ws n) same is,
-      record {
-        left = left;
-        is_rest = both.1;
-        whole = append_assoc done (ends_of_counts ws row ∷ []) (map (ends_of_counts ws) left)
-            ∙ ap (λ x. done ++ (ends_of_counts ws x ∷ map (ends_of_counts ws) left)) (sym same)
-            ∙ whole;
-        are_counts = All-tail (IsCounts ws n) c left all;
-      },
-    )
-
-pub LeftRows-next : (ws : List ℕ) (n : ℕ) (done : List (ℕ × ℕ)) (before row rest : List ℕ) → 1 ≤ length ws →
-    length row ≡ length ws → before ≡ row ++ rest → LeftRows ws n done before →
-    IsCounts ws n row × LeftRows ws n (done ++ ends_of_counts ws row ∷ []) rest
-LeftRows-next ws n done before row rest some places e l =
-    next_left ws n done row rest l.left some places (sym e ∙ l.is_rest) l.whole l.are_counts
-
-none_left : (ws : List ℕ) (n : ℕ) (done : List (ℕ × ℕ)) (rest : List ℕ) (left : List (List ℕ)) →
-    length rest < length ws → rest ≡ flat_map (λ c. c) left →
-    done ++ map (ends_of_counts ws) left ≡ map (ends_of_counts ws) (compositions (length ws) n) →
-    All (IsCounts ws n) left → done ≡ map (ends_of_counts ws) (compositions (length ws) n)
-none_left ws n done rest [] short e whole all = sym (Rattle.std.proofs.lemmas.List.append-nil done) ∙ whole
-none_left ws n done rest (c ∷ left) short e whole all =
-    let is : IsCounts ws n c = All-head (IsCounts ws n) c left all in
-    absurd (omega (arith, is.places_agree, ap length e ∙ length-append c (flat_map (λ x. x) left)))
-
-pub LeftRows-end : (ws : List ℕ) (n : ℕ) (done : List (ℕ × ℕ)) (rest : List ℕ) → length rest < length ws →
-    LeftRows ws n done rest → done ≡ map (ends_of_counts ws) (compositions (length ws) n)
-LeftRows-end ws n done rest short l = none_left ws n done rest l.left short l.is_rest l.whole l.are_counts
 
 -- the rows of all counts
 pub rows-end_to_end : (ws : List ℕ) (n : ℕ) (cs : List (List ℕ)) → All (IsCounts ws n) cs →
@@ -141,6 +74,3 @@ pub row_within : (k n q : ℕ) → k < n → k * q + q ≤ n * q
 row_within k n q within =
     let more : (k + 1) * q ≤ n * q = mul-le-mul_right q (omega arith) in
     omega (arith, more)
-
-pub row_is : (k q : ℕ) (flat : List ℕ) → take (k * q + q - k * q) (drop (k * q) flat) ≡ take q (drop (k * q) flat)
-row_is k q flat = ap (λ (n : ℕ). take n (drop (k * q) flat)) (let e : k * q + q - k * q ≡ q = omega arith in e)

@@ -1,5 +1,5 @@
 -- All isotopologues of a list of elements, each once, in lexicographic order.
-use Rattle.std.specs.Prelude.{ℕ, zero, suc, ◌+◌, ◌-◌, ◌==◌, if◌then◌else◌, List, [], ◌∷◌, length, map, flat_map}
+use Rattle.std.specs.Prelude.{ℕ, zero, suc, ◌+◌, ◌-◌, ◌==◌, if◌then◌else◌, List, [], ◌∷◌, length, map, flat_map, slice_index_or}
 use Rattle.std.specs.List.{range_with_len}
 use Rattle.multinomial_bounds.specs.Isotopologue.{Element}
 
@@ -9,6 +9,10 @@ unfoldable pub compositions : ℕ → ℕ → List (List ℕ)
 compositions zero n = if n == 0 then [] ∷ [] else []
 compositions (suc q) n =
     flat_map (λ first. map (λ rest. first ∷ rest) (compositions q (n - first))) (range_with_len 0 (n + 1))
+
+-- the counts at a place of these
+abbrev pub composition_at : ℕ → ℕ → ℕ → List ℕ
+composition_at q n place = slice_index_or (compositions q n) place []
 
 -- all ways to choose one item of each list, in lexicographic order: the first list's item changes last
 unfoldable pub choices : {A : Type 0} → List (List A) → List (List A)

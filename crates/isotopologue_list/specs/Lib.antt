@@ -1,2 +1,3 @@
 pub mod Compositions
 pub mod Listed
+pub mod Nearest

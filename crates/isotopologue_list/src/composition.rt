@@ -1,6 +1,6 @@
 //! The counts that a number of atoms may have over the isotopes of an element.
 
-ghost use Rattle.std.specs.Prelude.{◌≡◌, ◌+◌, ◌-◌, ◌^◌, ◌<◌, ◌++◌, length, take, flat_map, IfOk};
+ghost use Rattle.std.specs.Prelude.{◌≡◌, ◌+◌, ◌-◌, ◌*◌, ◌^◌, ◌<◌, ◌≤◌, ◌++◌, length, take, drop, flat_map, IfOk};
 ghost use Rattle.isotopologue_list.specs.Compositions.{compositions};
 
 use std::alloc::AllocError;
@@ -28,4 +28,13 @@ pub(crate) fn append_compositions(
         append_compositions(counts, place + 1, atoms - first, rows)?;
     }
     Ok(())
+}
+
+/// The counts at a place of those that stand end to end.
+pub(crate) fn row_at(counts: &[u32], isotopes: usize, place: usize) -> &[u32]
+    requires { place * isotopes + isotopes ≤ length counts.now }
+    ensures { result.now ≡ take isotopes (drop (place * isotopes) counts.now) }
+{
+    let from = place * isotopes;
+    &counts[from..from + isotopes]
 }

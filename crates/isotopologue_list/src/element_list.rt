@@ -1,8 +1,9 @@
 //! All counts of one element with their enclosures.
 
-use crate::composition::append_compositions;
+use crate::composition::{append_compositions, row_at};
 use crate::element::ElementAtoms;
-use multinomial_bounds::{Enclosure, Spread, enclose, mode_of};
+use crate::enclosures::enclosures_of;
+use multinomial_bounds::Enclosure;
 use std::alloc::{AllocError, Global};
 use std::marker::Model;
 
@@ -62,9 +63,7 @@ impl ElementList {
         requires { place < length self.now }
         ensures { (d : BoundedCounts) → result.now ≡ (slice_index_or self.now place d).counts }
     {
-        let counts = self.counts.as_slice();
-        let from = place * self.places;
-        &counts[from..from + self.places]
+        row_at(&self.counts, self.places, place)
     }
 
     /// The enclosure at a place.
@@ -75,30 +74,4 @@ impl ElementList {
     {
         self.enclosures[place]
     }
-}
-
-ghost use Rattle.std.specs.Prelude.{◌≡◌, ◌≤◌, ℕ, IfOk, length, map, flat_map};
-ghost use Rattle.multinomial_bounds.specs.Weight.{IsWeights};
-ghost use Rattle.isotopologue_list.specs.Compositions.{compositions};
-ghost use Rattle.isotopologue_list.specs.Listed.{ends_of_counts};
-
-// The enclosures of all counts, which stand end to end.
-fn enclosures_of(
-    alloc: Global,
-    weights: &[u64],
-    atoms: u32,
-    counts: &[u32],
-) -> Result<Vec<Enclosure>, AllocError>
-    requires weights_in_range { IsWeights weights.now }
-    requires few_atoms { atoms ≤ 10000 }
-    requires all { counts.now ≡ flat_map (λ c. c) (compositions (length weights.now) atoms) }
-    ensures { IfOk result (λ es. map {B = ℕ × ℕ} (λ e. (e.lo, e.hi)) es.items
-        ≡ map (ends_of_counts weights.now) (compositions (length weights.now) atoms)) }
-{
-    let (mode, _) = mode_of(alloc, weights, atoms)?;
-    let mut enclosures = Vec::new(alloc);
-    for row in counts.chunks_exact(weights.len()) {
-        enclosures.push(enclose(alloc, weights, &mode, row)?)?;
-    }
-    Ok(enclosures)
 }

@@ -40,8 +40,8 @@ impl IsotopologueList {
     ghost use Rattle.isotopologue_list.specs.Listed.{BoundedIsotopologue, bounded_isotopologue};
 
     /// Lists all isotopologues of the elements. Memory is in proportion to their number, which `count_up_to`
-    /// tells beforehand. Time is so too, but for the counts of each element by itself: each of these takes
-    /// the moves of one atom that lead to it from the mode. The only error is want of memory.
+    /// tells beforehand, and time to that and to the number of each element's counts times its logarithm.
+    /// The only error is want of memory.
     pub fn of(alloc: Global, elements: &[ElementAtoms]) -> Result<IsotopologueList, AllocError>
         ensures all { IfOk result (λ l. l ≡ map (bounded_isotopologue elements.now) (isotopologues_of elements.now)) }
 
@@ -72,6 +72,13 @@ impl IsotopologueList {
         ensures { result ≡ length self.now }
     {
         self.enclosures.len()
+    }
+
+    /// The enclosures of all isotopologues in their order, in units of 10^-18.
+    pub fn enclosures(&self) -> &[Enclosure]
+        ensures { map {B = ℕ × ℕ} (λ e. (e.lo, e.hi)) result.now ≡ map (λ i. (i.lo, i.hi)) self.now }
+    {
+        &self.enclosures
     }
 
     /// The enclosure of the isotopologue at a place, in units of 10^-18.

@@ -1,10 +1,12 @@
 //! Values that come from outside: worked examples.
 
-ghost use Rattle.std.specs.Prelude.{◌≡◌, ◌<◌, ◌≤◌, All, IfOk, length};
+ghost use Rattle.std.specs.Prelude.{◌≡◌, ◌<◌, ◌≤◌, All, IfOk, length, sum};
 ghost use Rattle.multinomial_bounds.specs.Weight.{IsWeights};
 
 use super::*;
+use multinomial_bounds::{enclose, mode_of};
 use std::alloc::{AllocError, Global};
+use std::process::Abort;
 use std::test::Fail;
 
 // A list of one element.
@@ -16,6 +18,29 @@ fn only(alloc: Global, weights: &[u64], atoms: u32) -> Result<Vec<ElementAtoms>,
     let mut elements = Vec::new(alloc);
     elements.push(ElementAtoms::of(alloc, weights, atoms)?)?;
     Ok(elements)
+}
+
+// Fails unless the list has these counts at a place, with the enclosure that all moves from the mode give.
+fn expect_enclosed(
+    rt: &impl Abort,
+    alloc: Global,
+    list: &IsotopologueList,
+    place: usize,
+    weights: &[u64],
+    counts: &[u32],
+) -> Result<(), AllocError>
+    requires weights_in_range { IsWeights weights.now }
+    requires same_places { length counts.now ≡ length weights.now }
+    requires few_atoms { sum counts.now ≤ 10000 }
+    requires place_within { place < length list.now }
+    requires some_element { All (λ i. 0 < length i.counts) list.now }
+{
+    let (mode, _) = mode_of(alloc, weights, counts.iter().sum())?;
+    let wanted = enclose(alloc, weights, &mode, counts)?;
+    let found = list.enclosure(place);
+    assert_eq!(rt; list.counts(place, 0), counts);
+    assert_eq!(rt; (found.lo, found.hi), (wanted.lo, wanted.hi));
+    Ok(())
 }
 
 // Two isotopes of equal weight: the outer counts have a quarter each, and the middle ones the half.
@@ -78,6 +103,37 @@ fn carbon_dioxide(rt: HostRuntime) -> Result<(), Fail> {
     );
     assert_eq!(rt; list.counts(5, 0), [0, 1].as_slice());
     assert_eq!(rt; list.counts(5, 1), [2, 0, 0].as_slice());
+    Ok(())
+}
+
+// 300 atoms of three isotopes, whose mode has hardly any atoms of the heavier ones.
+#[test]
+fn hundreds_of_atoms(rt: HostRuntime) -> Result<(), Fail> {
+    let weights = [997_570_000, 380_000, 2_050_000];
+    let elements = only(rt.alloc(), &weights, 300)?;
+    let list = IsotopologueList::of(rt.alloc(), &elements)?;
+    assert_eq!(rt; list.len(), 45_451);
+    expect_enclosed(&rt, rt.alloc(), &list, 45_450, &weights, &[300, 0, 0])?;
+    expect_enclosed(&rt, rt.alloc(), &list, 45_448, &weights, &[299, 0, 1])?;
+    expect_enclosed(&rt, rt.alloc(), &list, 45_388, &weights, &[290, 3, 7])?;
+    expect_enclosed(&rt, rt.alloc(), &list, 25_300, &weights, &[100, 150, 50])?;
+    expect_enclosed(&rt, rt.alloc(), &list, 0, &weights, &[0, 0, 300])?;
+    Ok(())
+}
+
+// 12 atoms of three isotopes, whose mode has 5, 4 and 3 atoms, with counts on all sides of it.
+#[test]
+fn mode_in_the_middle(rt: HostRuntime) -> Result<(), Fail> {
+    let weights = [400_000_000, 350_000_000, 250_000_000];
+    let elements = only(rt.alloc(), &weights, 12)?;
+    let list = IsotopologueList::of(rt.alloc(), &elements)?;
+    assert_eq!(rt; list.len(), 91);
+    expect_enclosed(&rt, rt.alloc(), &list, 59, &weights, &[5, 4, 3])?;
+    expect_enclosed(&rt, rt.alloc(), &list, 66, &weights, &[6, 3, 3])?;
+    expect_enclosed(&rt, rt.alloc(), &list, 34, &weights, &[2, 9, 1])?;
+    expect_enclosed(&rt, rt.alloc(), &list, 70, &weights, &[7, 0, 5])?;
+    expect_enclosed(&rt, rt.alloc(), &list, 0, &weights, &[0, 0, 12])?;
+    expect_enclosed(&rt, rt.alloc(), &list, 90, &weights, &[12, 0, 0])?;
     Ok(())
 }
 

@@ -11,6 +11,11 @@
 //! The weights of an element are those of its isotopes with a positive abundance, in any one unit:
 //! 1 to 16 of them, each from 1 to 10^12. Isotopes of abundance 0 are left out by the caller. An
 //! element has at most 10,000 atoms.
+//!
+//! An [`Enclosure`] is seen by contracts as its two bounds, and a [`Spread`] as the list of its counts. The
+//! crate stands on no other. The layers above begin with the mode of an element, by [`mode_of`], go on to the
+//! enclosures of its other counts, by [`enclose`] or by one [`move_down`], and multiply those of several
+//! elements by [`times`].
 #![tactic(auto)]
 
 mod enclosure;
