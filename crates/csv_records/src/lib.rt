@@ -2,6 +2,10 @@
 //!
 //! Commas part the fields, double quotes hold a field, and a doubled quote within them is one.
 //! Records may differ in length, no record is a header, and no field need be UTF-8.
+//!
+//! A [`Records`] is seen by contracts as the list of its records, each the list of its fields without the
+//! blanks at both ends. The crate stands on `csv`. The layer above reads the bytes of a file by
+//! [`Records::read`], and takes each field by its record and column.
 #![tactic(auto)]
 
 ghost use Rattle.std.specs.Prelude.{◌≡◌, ◌<◌, ◌≤◌, ◌==◌, [], IfOk, length, map, slice_index_or};

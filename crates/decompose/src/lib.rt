@@ -1,4 +1,11 @@
 //! Enumerates the count lists of a window of mass: the formulas that an accurate mass allows.
+//!
+//! [`Tables`] are seen by contracts as the masses of an alphabet's symbols, [`Counts`] as the list of the
+//! counts, and a [`Decomps`] as the masses, limits and window that it goes over and the list that it gave
+//! last. The crate stands on `outside_ports` for the counter of steps.
+//!
+//! The layer above makes the tables of an alphabet by [`Tables::of`], begins by [`Decomps::start`], and takes
+//! one list after another by [`Decomps::next_into`]: each list of the box and the window once, in order.
 #![tactic(auto)]
 
 mod bounds;

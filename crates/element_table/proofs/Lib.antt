@@ -5,3 +5,4 @@ pub mod Entries
 pub mod RowLemmas
 pub mod RowRanges
 pub mod Records
+pub mod ReferenceIsotope

@@ -118,6 +118,7 @@ impl Element {
     /// The isotope of greatest abundance, the one of the lowest mass number where several have it.
     pub fn reference(&self) -> &Isotope
         ensures reference { result.now ≡ reference_isotope self.now.isotopes }
+        ensures isotope { IsIsotope result.now }
         ensures element { IsElement self.now }
     {
         let mut reference = &self.isotopes[0];

@@ -1,4 +1,8 @@
 //! Decimal numbers with a fixed number of decimals, as whole numbers of units, and their texts.
+//!
+//! A [`Fixed`] is seen by contracts as its number of units. The crate stands on no other. The layers above
+//! read masses, abundances and coverages by [`Fixed::read`] and whole numbers by [`whole`], both up to a
+//! limit, and print masses by [`Fixed::print`].
 #![tactic(auto)]
 
 mod digits;
@@ -62,7 +66,8 @@ impl<const D: u32> Fixed<D> {
     /// several faults the answer is the first in the order in which `DecimalFault` has them.
     #[tactic(auto, unfolding(crate::specs::Decimal::read_decimal, crate::specs::Decimal::fine_place, crate::specs::Decimal::decimal_value))]
     pub fn read(text: &[u8], limit: u64) -> Result<Self, DecimalFault>
-        ensures { result ≡ read_decimal D limit text.now }
+        ensures value { result ≡ read_decimal D limit text.now }
+        ensures within { IfOk result (λ fixed. fixed ≤ limit) }
     {
         let (whole, fraction) = parts::split(text).map_err(|place| DecimalFault::NotDecimal {
             place,

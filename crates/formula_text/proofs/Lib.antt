@@ -5,3 +5,4 @@ pub mod Texts
 pub mod Grammar
 pub mod Reading
 pub mod BadPlaces
+pub mod KnownItems

@@ -33,10 +33,16 @@ impl Model for Parts {
 }
 
 impl Parts {
-    /// The sum of the parts, or the first limit that it passes.
-    fn within_limits(alloc: Global, parts: &[(Item, u32)]) -> Result<Parts, PartsFault>
+    /// The sum of the parts: equal items are added up, and counts of 0 left out. Refused where a
+    /// limit is passed, with the first of the causes that [`PartsFault`] lists.
+    pub fn of(alloc: Global, parts: &[(Item, u32)]) -> Result<Parts, PartsFault>
         ensures sum { GivesParts result (parts_of parts.now) }
         ensures parts { IfOk result IsParts }
+
+        // The counts are the sums of the parts' counts, and are the only such within the limits.
+        ensures counts { IfOk result (SumsUp parts.now) }
+        ensures only { (f : List (Item × ℕ)) →
+            IsParts f → SumsUp parts.now f → GivesParts result (Ok f) }
     {
         if has_many_atoms(parts) {
             return Err(PartsFault::TooManyAtoms);
@@ -49,20 +55,6 @@ impl Parts {
             return Err(PartsFault::TooManyElements);
         }
         Ok(Parts { items })
-    }
-
-    /// The sum of the parts: equal items are added up, and counts of 0 left out. Refused where a
-    /// limit is passed, with the first of the causes that [`PartsFault`] lists.
-    pub fn of(alloc: Global, parts: &[(Item, u32)]) -> Result<Parts, PartsFault>
-        ensures sum { GivesParts result (parts_of parts.now) }
-        ensures parts { IfOk result IsParts }
-
-        // The counts are the sums of the parts' counts, and are the only such within the limits.
-        ensures counts { IfOk result (SumsUp parts.now) }
-        ensures only { (f : List (Item × ℕ)) →
-            IsParts f → SumsUp parts.now f → GivesParts result (Ok f) }
-    {
-        Parts::within_limits(alloc, parts)
     }
 
     /// The items with their counts, in Hill order.

@@ -1,21 +1,10 @@
 //! The printed text of a formula.
 ghost use Rattle.std.specs.Prelude.{◌≡◌, ◌++◌, OnOk, IfOk};
-ghost use Rattle.std.specs.Fmt.{decimal};
 ghost use Rattle.formula_text.specs.PrintedText.{item_text, count_text, printed};
 
 use crate::item::Item;
+use itoa::Buffer;
 use std::alloc::{AllocError, Global};
-
-/// Appends a number in digits, without leading zeros.
-fn push_decimal(text: &mut Vec<u8>, number: u32) -> Result<(), AllocError>
-    ensures { OnOk result (text.new.items ≡ text.old.items ++ decimal number) }
-{
-    if number >= 10 {
-        push_decimal(text, number / 10)?;
-    }
-    text.push(b'0' + (number % 10) as u8)?;
-    Ok(())
-}
 
 /// Appends an item: its symbol, or `[13C]`.
 fn push_item(text: &mut Vec<u8>, item: &Item) -> Result<(), AllocError>
@@ -24,8 +13,9 @@ fn push_item(text: &mut Vec<u8>, item: &Item) -> Result<(), AllocError>
     if item.label == 0 {
         return text.extend_from_slice(item.symbol.text());
     }
+    let mut label = Buffer::new();
     text.push(b'[')?;
-    push_decimal(text, item.label)?;
+    text.extend_from_slice(label.format(item.label).as_bytes())?;
     text.extend_from_slice(item.symbol.text())?;
     text.push(b']')?;
     Ok(())
@@ -38,7 +28,8 @@ fn push_count(text: &mut Vec<u8>, count: u32) -> Result<(), AllocError>
     if count == 1 {
         return Ok(());
     }
-    push_decimal(text, count)
+    let mut digits = Buffer::new();
+    text.extend_from_slice(digits.format(count).as_bytes())
 }
 
 /// The text of the items with their counts, in their order.

@@ -6,6 +6,7 @@ ghost use Rattle.element_table.specs.SymbolText.{is_symbol, is_small};
 ghost use Rattle.formula_text.specs.declared.item.Item.{Item};
 ghost use Rattle.formula_text.specs.declared.fault.FormulaFault.{FormulaFault};
 ghost use Rattle.formula_text.specs.declared.fault.FormulaFault.TheVariants.{UnknownSymbol};
+ghost use Rattle.formula_text.specs.Masses.{HasItems};
 ghost use Rattle.formula_text.specs.FormulaTexts.{IsTextOf, IsBadPlace, IfBadText, count_of_digits, small_after, bad_text, symbol_len, item_at, items_of, unknown_symbol, fault_or, read_of, GivesFormula, capped};
 
 use crate::fault::FormulaFault;
@@ -114,22 +115,6 @@ fn read_items(alloc: Global, table: &Table, text: &[u8]) -> Result<Vec<(Item, u3
     Ok(items)
 }
 
-/// The formula of a text, or its first fault.
-fn read_text(alloc: Global, table: &Table, text: &[u8]) -> Result<Formula, FormulaFault>
-    ensures exact { GivesFormula result (read_of table.now text.now) }
-    ensures found { IfOk result (IsTextOf table.now text.now) }
-{
-    if let Some(place) = bad_text(text) {
-        return Err(FormulaFault::BadText { place });
-    }
-    let items = read_items(alloc, table, text)?;
-    let parts = Parts::of(alloc, &items)?;
-    match Formula::from_parts(parts) {
-        Some(formula) => Ok(formula),
-        None => Err(FormulaFault::Empty),
-    }
-}
-
 /// The formula of a text, as `C6H12O6`. Items may repeat and stand in any order, and equal items
 /// add up; a count has any number of digits, and one of 0 adds nothing. Refused with the first fault
 /// in the order in which [`FormulaFault`] lists them. Labelled isotopes, as in `[13C]`, aren't read
@@ -142,8 +127,19 @@ pub fn read_formula(alloc: Global, table: &Table, text: &[u8]) -> Result<Formula
     ensures only { (f : List (Item × ℕ)) →
         IsTextOf table.now text.now f → GivesFormula result (Ok f) }
 
+    // The table has each item of the formula.
+    ensures known { IfOk result (HasItems table.now) }
+
     // Bad text is at the first byte at which no formula text can go on.
     ensures bad_text { IfErr result (λ e. IfBadText e (IsBadPlace text.now)) }
 {
-    read_text(alloc, table, text)
+    if let Some(place) = bad_text(text) {
+        return Err(FormulaFault::BadText { place });
+    }
+    let items = read_items(alloc, table, text)?;
+    let parts = Parts::of(alloc, &items)?;
+    match Formula::from_parts(parts) {
+        Some(formula) => Ok(formula),
+        None => Err(FormulaFault::Empty),
+    }
 }

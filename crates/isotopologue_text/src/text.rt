@@ -1,6 +1,5 @@
 //! The text of an isotopologue.
 ghost use Rattle.std.specs.Prelude.{◌≡◌, ◌++◌, ◌≤◌, All, OnOk, IfOk, length, map};
-ghost use Rattle.std.specs.Fmt.{decimal};
 ghost use Rattle.std.specs.List.{list_any};
 ghost use Rattle.element_table.specs.Elements.{IsIsotope};
 ghost use Rattle.formula_text.specs.Masses.{HasItems};
@@ -9,18 +8,8 @@ ghost use Rattle.isotopologue_text.specs.Isotopologues.{isotopes_that_occur, for
 use crate::isotopes::{isotopes_of, occurring};
 use element_table::{Isotope, Table};
 use formula_text::{Formula, Item};
+use itoa::Buffer;
 use std::alloc::{AllocError, Global};
-
-/// Appends a number in digits, without leading zeros.
-fn push_decimal(text: &mut Vec<u8>, number: u32) -> Result<(), AllocError>
-    ensures { OnOk result (text.new.items ≡ text.old.items ++ decimal number) }
-{
-    if number >= 10 {
-        push_decimal(text, number / 10)?;
-    }
-    text.push(b'0' + (number % 10) as u8)?;
-    Ok(())
-}
 
 /// Appends an isotope with its count, unless that is 0.
 fn push_isotope(
@@ -35,12 +24,13 @@ fn push_isotope(
     if count == 0 {
         return Ok(());
     }
+    let mut digits = Buffer::new();
     text.push(b'[')?;
-    push_decimal(text, isotope.number)?;
+    text.extend_from_slice(digits.format(isotope.number).as_bytes())?;
     text.extend_from_slice(item.symbol.text())?;
     text.push(b']')?;
     if count > 1 {
-        push_decimal(text, count)?;
+        text.extend_from_slice(digits.format(count).as_bytes())?;
     }
     Ok(())
 }

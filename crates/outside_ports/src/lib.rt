@@ -1,5 +1,13 @@
 //! What lies outside the program: the files that it reads, the streams that it writes, and the
 //! counter of its steps.
+//!
+//! A [`Shelf`] of files is seen by contracts as what it holds, the names asked and its count of faults, a
+//! [`Sink`] of bytes as what was written and its count of faults, and [`Steps`] as the number of steps. Those
+//! in memory, [`MemoryShelf`] and [`MemorySink`], tell all of this; [`FileShelf`] and [`StreamSink`], over
+//! the runtime, can't tell what a file holds or what was written.
+//!
+//! The crate stands on no other. The program fetches its files and writes its bytes by the two traits, so
+//! that its contract holds for every shelf and sink, and a search counts its steps in a [`Steps`].
 #![tactic(auto)]
 
 mod fault;

@@ -8,6 +8,10 @@
 //!
 //! The enclosures stand in the lexicographic order of isotopologues, and an isotopologue is named by
 //! its place among them. Probabilities, thresholds and coverages are in units of 10^-18.
+//!
+//! Contracts see enclosures as their two bounds, and [`Places`] as the list of the places. The crate stands on
+//! `multinomial_bounds`. The layer above takes the threshold from [`reaching_threshold`], the layer in the
+//! cover's order from [`cover_order`], and from [`cover_size`] how many of its first members are the cover.
 #![tactic(auto)]
 
 mod lower;
