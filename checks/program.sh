@@ -5,7 +5,7 @@ root=$(cd "$(dirname "$0")/.." && pwd)
 place=$(mktemp -d)
 trap 'rm -rf "$place"' EXIT
 cd "$place" || exit 1
-cp "$root/examples/ab.csv" .
+cp "$root/examples/ab.csv" "$root/examples/elements.csv" .
 mkdir folder
 passed=0
 failed=0
@@ -76,6 +76,30 @@ expect 3 "isoform: table" "a field of a million bytes" of wide.csv
 symbols() { "$root/isoform" decompose --table elements120.csv --mass 10 --da 0 --alphabet "$1" >out; }
 expect 0 "" "20 symbols" symbols "$(printf %s C{a..t})"
 expect 5 "isoform: alphabet" "21 symbols" symbols "$(printf %s C{a..u})"
+
+# Envelopes: as many isotopologues as there may be, and more.
+envelope() { timeout 60 "$root/isoform" envelope --table "$1" --formula "$2" --coverage "$3" >out; }
+envelope_to_full() { "$root/isoform" envelope --table elements.csv --formula CO2 --coverage 0.99 >/dev/full; }
+lines() {
+    if [ "$(wc -l <out)" != "$1" ]; then
+        failed=$((failed + 1))
+        echo "$2: $(wc -l <out) lines in place of $1"
+    fi
+}
+{
+    printf "$head"
+    for name in {A..T}a; do printf "$name,1,10,0.6,1\n$name,2,11,0.4,1\n"; done
+} >pairs.csv
+expect 0 "" "an envelope" envelope elements.csv CO2 0.99
+lines 6 "an envelope"
+expect 8 "isoform: write fault" "an envelope to a full device" envelope_to_full
+expect 0 "" "1,047,628 isotopologues of one element" envelope elements.csv O1446 0.999999
+expect 6 "isoform: limit: wide of O1447" "1,049,076 isotopologues of one element" envelope elements.csv O1447 0.999999
+expect 0 "" "1,048,576 isotopologues of 20 elements" envelope pairs.csv "$(printf %s {A..T}a)" 0.999999
+lines 1048533 "1,048,576 isotopologues of 20 elements"
+expect 6 "isoform: limit: wide of $(printf %s {A..S}a)Ta2" "more isotopologues of 20 elements" envelope pairs.csv "$(printf %s {A..T}a)Ta" 0.5
+expect 5 "isoform: formula: too many elements" "a formula of 21 elements" envelope elements120.csv "$(printf %s C{a..u})" 0.5
+expect 2 "isoform: value: --coverage" "a coverage above 0.999999" envelope elements.csv CO2 0.9999991
 
 echo "program: $passed passed, $failed failed"
 [ "$failed" = 0 ]

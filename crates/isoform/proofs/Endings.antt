@@ -1,15 +1,16 @@
 -- What a run shows at the outside, ending by ending.
 use Rattle.std.proofs.Common.{◌≡◌, ℕ, ◌≤◌, List, [], ◌∷◌, ◌++◌, length, take, refl, sym, ap, ◌∙◌, subst, arith, inl, inr}
-use Rattle.std.specs.Prelude.{Option, Result, Ok, Err}
+use Rattle.std.specs.Prelude.{Option, Result, Ok, Err, IfOk}
 use Rattle.std.proofs.lemmas.List.{take_all, append-nil}
 use Rattle.outside_ports.specs.Files.{Files}
 use Rattle.isoform.specs.Answering.{◌>>=◌, Refuses}
-use Rattle.isoform.specs.Words.{DecomposeRequest, request_of}
+use Rattle.isoform.specs.Words.{Request, request_of, table_of}
 use Rattle.isoform.specs.Answer.{answer, answer_of_request, answer_of_bytes, bytes_within}
-use Rattle.isoform.specs.Run.{Ending, Outside, Shows, IsTold, IsPut, file_names, table_of_request}
+use Rattle.isoform.specs.Printed.{Writes, WritesFor}
+use Rattle.isoform.specs.Run.{Ending, OfFiles, Outside, Shows, IsTold, IsPut, file_names, table_of_request}
 use Rattle.isoform.specs.declared.refusal.InputFile.TheVariants as file
 use Rattle.isoform.specs.declared.refusal.Refusal.{Refusal}
-use Rattle.isoform.specs.declared.refusal.Refusal.TheVariants.{Words, Value, Table, Alphabet, FileLimit, CandidateLimit, ReadFault, WriteFault, Memory}
+use Rattle.isoform.specs.declared.refusal.Refusal.TheVariants.{Words, Value, Table, Alphabet, Formula, FileLimit, CandidateLimit, Wide, ReadFault, WriteFault, Memory}
 use Rattle.isoform.proofs.Contents.{IsOfContent, RefusesContent}
 
 -- content was refused: all names were asked, and nothing was written
@@ -18,8 +19,10 @@ content_shows answer names before after Words content is asks reads receives wri
 content_shows answer names before after (Value option) content is asks reads receives writes = record { cause = is; reads = reads; writes = writes; asks = asks; receives = receives }
 content_shows answer names before after Table content is asks reads receives writes = record { cause = is; reads = reads; writes = writes; asks = asks; receives = receives }
 content_shows answer names before after Alphabet content is asks reads receives writes = record { cause = is; reads = reads; writes = writes; asks = asks; receives = receives }
+content_shows answer names before after (Formula fault) content is asks reads receives writes = record { cause = is; reads = reads; writes = writes; asks = asks; receives = receives }
 content_shows answer names before after (FileLimit which) content is asks reads receives writes = record { cause = is; reads = reads; writes = writes; asks = asks; receives = receives }
 content_shows answer names before after (CandidateLimit peak) content is asks reads receives writes = record { cause = is; reads = reads; writes = writes; asks = asks; receives = receives }
+content_shows answer names before after (Wide formula) content is asks reads receives writes = record { cause = is; reads = reads; writes = writes; asks = asks; receives = receives }
 content_shows answer names before after (ReadFault which) content is asks reads receives writes = absurd content
 content_shows answer names before after WriteFault content is asks reads receives writes = absurd content
 content_shows answer names before after Memory content is asks reads receives writes = absurd content
@@ -46,31 +49,40 @@ part_shows answer part names before after Table content refused whole asks reads
     content_shows answer names before after Table tt (whole refused) asks reads receives writes
 part_shows answer part names before after Alphabet content refused whole asks reads receives writes =
     content_shows answer names before after Alphabet tt (whole refused) asks reads receives writes
+part_shows answer part names before after (Formula fault) content refused whole asks reads receives writes =
+    content_shows answer names before after (Formula fault) tt (whole refused) asks reads receives writes
 part_shows answer part names before after (FileLimit which) content refused whole asks reads receives writes =
     content_shows answer names before after (FileLimit which) tt (whole refused) asks reads receives writes
 part_shows answer part names before after (CandidateLimit peak) content refused whole asks reads receives writes =
     content_shows answer names before after (CandidateLimit peak) tt (whole refused) asks reads receives writes
+part_shows answer part names before after (Wide formula) content refused whole asks reads receives writes =
+    content_shows answer names before after (Wide formula) tt (whole refused) asks reads receives writes
 part_shows answer part names before after (ReadFault which) content refused whole asks reads receives writes =
     absurd (subst RefusesContent refused content)
 part_shows answer part names before after WriteFault content refused whole asks reads receives writes =
     absurd (subst RefusesContent refused content)
 
 -- the answer where the file was fetched
-pub answer-fetched : (request : DecomposeRequest) (files : Files) (bytes : List ℕ) (part : Result (List ℕ) Refusal) → bytes_within file.Table 16777216 (files request.table) ≡ Ok bytes → answer_of_bytes request bytes ≡ part → answer_of_request request files ≡ part
+pub answer-fetched : (request : Request) (files : Files) (bytes : List ℕ) (part : Result (List ℕ) Refusal) → bytes_within file.Table 16777216 (files (table_of request)) ≡ Ok bytes → answer_of_bytes request bytes ≡ part → answer_of_request request files ≡ part
 answer-fetched request files bytes part fetched is = ap (λ r. r >>= answer_of_bytes request) fetched ∙ is
 
 -- what a request shows, its words show
-pub words_show : (words : List (List ℕ)) (files : Files) (request : DecomposeRequest) (before after : Outside) (ending : Ending) → Ok request ≡ request_of words → Shows (answer_of_request request files) (request.table ∷ []) before after ending → Shows (answer words files) (file_names words) before after ending
+pub words_show : (words : List (List ℕ)) (files : Files) (request : Request) (before after : Outside) (ending : Ending) → Ok request ≡ request_of words → Shows (answer_of_request request files) (table_of request ∷ []) before after ending → Shows (answer words files) (file_names words) before after ending
 unfolding answer
 words_show words files request before after ending is shows =
-    subst (λ (r : Result DecomposeRequest Refusal). Shows (r >>= λ q. answer_of_request q files) (table_of_request r) before after ending) is shows
+    subst (λ (r : Result Request Refusal). Shows (r >>= λ q. answer_of_request q files) (table_of_request r) before after ending) is shows
+
+-- what was written for a request was written for the words that ask for it
+pub writes_for : (ending : Ending) (held : Option Files) (asked : Result Request Refusal) (request : Request) (before after : Option (List ℕ)) → Ok request ≡ asked → IfOk ending (λ _. OfFiles held (λ files. Writes request files before after)) → IfOk ending (λ _. OfFiles held (λ files. WritesFor asked files before after))
+writes_for ending held asked request before after is given =
+    subst (λ (r : Result Request Refusal). IfOk ending (λ _. OfFiles held (λ files. WritesFor r files before after))) is given
 
 -- words that are refused show that
 pub refused_words_show : (words : List (List ℕ)) (files : Files) (before : Outside) (refusal : Refusal) → RefusesContent (request_of words) → Err refusal ≡ request_of words → Shows (answer words files) (file_names words) before before (Err refusal)
 unfolding answer
 refused_words_show words files before refusal content is =
     let of_content : IsOfContent refusal = subst RefusesContent (sym is) content in
-    subst (λ (r : Result DecomposeRequest Refusal). Shows (r >>= λ q. answer_of_request q files) (table_of_request r) before before (Err refusal)) is
+    subst (λ (r : Result Request Refusal). Shows (r >>= λ q. answer_of_request q files) (table_of_request r) before before (Err refusal)) is
     (content_shows (Err refusal) [] before before refusal of_content refl (sym (append-nil before.asked)) refl refl refl)
 
 -- a note was put, under other names of the same values
@@ -88,8 +100,10 @@ memory_behind answer names before after Words other shows = late_memory_shows an
 memory_behind answer names before after (Value option) other shows = late_memory_shows answer names before after shows.asks (omega (arith, shows.reads)) shows.receives shows.writes
 memory_behind answer names before after Table other shows = late_memory_shows answer names before after shows.asks (omega (arith, shows.reads)) shows.receives shows.writes
 memory_behind answer names before after Alphabet other shows = late_memory_shows answer names before after shows.asks (omega (arith, shows.reads)) shows.receives shows.writes
+memory_behind answer names before after (Formula fault) other shows = late_memory_shows answer names before after shows.asks (omega (arith, shows.reads)) shows.receives shows.writes
 memory_behind answer names before after (FileLimit which) other shows = late_memory_shows answer names before after shows.asks (omega (arith, shows.reads)) shows.receives shows.writes
 memory_behind answer names before after (CandidateLimit peak) other shows = late_memory_shows answer names before after shows.asks (omega (arith, shows.reads)) shows.receives shows.writes
+memory_behind answer names before after (Wide formula) other shows = late_memory_shows answer names before after shows.asks (omega (arith, shows.reads)) shows.receives shows.writes
 
 -- what was told is shown
 pub told_shows : (answer : Result (List ℕ) Refusal) (names : List (List ℕ)) (before after : Outside) (came told : Refusal) → IsTold came told → Shows answer names before after (Err came) → Shows answer names before after (Err told)

@@ -48,6 +48,10 @@ with_lines-few text line_of formulas few =
     let test : nat_lt 1048576 (length formulas) ≡ false = grind (arith, nat_tests) in
     ap (λ (b : Bool). cond b (Err (CandidateLimit 1)) (Ok (text ++ flat_map line_of formulas))) test
 
+-- a word that was put, by another name
+pub same_word : (text word name after : List ℕ) (end : ℕ) → after ≡ text ++ (word ++ end ∷ []) → word ≡ name → after ≡ text ++ (name ++ end ∷ [])
+same_word text word name after end put is = put ∙ ap (λ w. text ++ (w ++ end ∷ [])) is
+
 -- a line of five words, put word by word
 pub five_words : (text a b c d e t1 t2 t3 t4 t5 : List ℕ) → t1 ≡ text ++ (a ++ 32 ∷ []) → t2 ≡ t1 ++ (b ++ 32 ∷ []) → t3 ≡ t2 ++ (c ++ 32 ∷ []) → t4 ≡ t3 ++ (d ++ 32 ∷ []) → t5 ≡ t4 ++ (e ++ 10 ∷ []) → t5 ≡ text ++ line (a ∷ b ∷ c ∷ d ∷ e ∷ [])
 five_words text a b c d e t1 t2 t3 t4 t5 h1 h2 h3 h4 h5 =

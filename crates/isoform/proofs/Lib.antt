@@ -5,10 +5,8 @@ pub mod Endings
 pub mod FirstPlace
 pub mod CutText
 pub mod EntriesInOrder
-pub mod ReferenceMass
 pub mod AlphabetWalk
 pub mod FormulaItems
 pub mod FormulaLines
 pub mod ReportLines
-pub mod ReadWithin
 pub mod AlphabetMasses

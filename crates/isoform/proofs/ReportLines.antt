@@ -7,7 +7,7 @@ use Rattle.formula_text.specs.declared.item.Item.{Item}
 use Rattle.isoform.specs.Answering.{◌>>=◌}
 use Rattle.isoform.specs.Words.{DecomposeRequest}
 use Rattle.isoform.specs.Alphabet.{alphabet_of}
-use Rattle.isoform.specs.Answer.{answer_of_table}
+use Rattle.isoform.specs.Answer.{decompose_answer}
 use Rattle.isoform.specs.Candidates.{candidates, limited_candidates, with_lines}
 use Rattle.isoform.specs.Report.{decompose_report, report_head, formula_line}
 use Rattle.isoform.specs.declared.alphabet.Entry.{Entry}
@@ -25,7 +25,7 @@ head_and_lines table asked formulas =
     by_test false report = refl
 
 -- the answer over a table whose alphabet was read
-pub answer-alphabet : (request : DecomposeRequest) (table : TableEntries) (alphabet : List Entry) → alphabet_of table request.alphabet ≡ Ok alphabet → answer_of_table request table ≡ with_lines (report_head request.mass) (formula_line table request.mass) (candidates alphabet request.mass request.da)
+pub answer-alphabet : (request : DecomposeRequest) (table : TableEntries) (alphabet : List Entry) → alphabet_of table request.alphabet ≡ Ok alphabet → decompose_answer request table ≡ with_lines (report_head request.mass) (formula_line table request.mass) (candidates alphabet request.mass request.da)
 answer-alphabet request table alphabet is =
     ap (λ (read : Result (List Entry) Refusal). read >>= λ a. limited_candidates (candidates a request.mass request.da) >>= λ fs. Ok (decompose_report table request.mass fs)) is
     ∙ head_and_lines table request.mass (candidates alphabet request.mass request.da)

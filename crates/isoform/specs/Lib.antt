@@ -7,3 +7,4 @@ pub mod Report
 pub mod Answer
 pub mod Notes
 pub mod Run
+pub mod Printed

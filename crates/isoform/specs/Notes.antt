@@ -1,18 +1,23 @@
 -- The note and the status of a refusal.
 use Rattle.std.specs.Prelude.{ℕ, List, [], ◌∷◌, ◌++◌, codes}
 use Rattle.std.specs.Fmt.{decimal}
+use Rattle.formula_text.specs.declared.fault.FormulaFault.{FormulaFault}
+use Rattle.formula_text.specs.declared.fault.FormulaFault.TheVariants as fault
+use Rattle.formula_text.specs.PrintedText.{printed}
 use Rattle.isoform.specs.declared.refusal.OptionName.{OptionName}
-use Rattle.isoform.specs.declared.refusal.OptionName.TheVariants.{Mass, Da}
+use Rattle.isoform.specs.declared.refusal.OptionName.TheVariants.{Mass, Da, Coverage}
 use Rattle.isoform.specs.declared.refusal.Refusal.{Refusal}
-use Rattle.isoform.specs.declared.refusal.Refusal.TheVariants.{Words, Value, Table, Alphabet, FileLimit, CandidateLimit, ReadFault, WriteFault, Memory}
+use Rattle.isoform.specs.declared.refusal.Refusal.TheVariants.{Words, Value, Table, Alphabet, Formula, FileLimit, CandidateLimit, Wide, ReadFault, WriteFault, Memory}
 
 abbrev pub status_of : Refusal → ℕ
 status_of Words = 2
 status_of (Value option) = 2
 status_of Table = 3
 status_of Alphabet = 5
+status_of (Formula fault) = 5
 status_of (FileLimit which) = 6
 status_of (CandidateLimit peak) = 6
+status_of (Wide formula) = 6
 status_of (ReadFault which) = 7
 status_of WriteFault = 8
 status_of Memory = 9
@@ -20,6 +25,16 @@ status_of Memory = 9
 abbrev pub option_text : OptionName → List ℕ
 option_text Mass = codes "--mass"
 option_text Da = codes "--da"
+option_text Coverage = codes "--coverage"
+
+-- what is wrong with the text of a formula
+abbrev pub formula_words : FormulaFault → List ℕ
+formula_words (fault.BadText place) = codes "bad text at " ++ decimal place
+formula_words (fault.UnknownSymbol place) = codes "unknown symbol at " ++ decimal place
+formula_words fault.TooManyAtoms = codes "too many atoms"
+formula_words fault.TooManyElements = codes "too many elements"
+formula_words fault.Empty = codes "empty"
+formula_words (fault.Memory e) = codes "memory"
 
 -- what a note says, where the table file has this name
 abbrev pub message_of : List ℕ → Refusal → List ℕ
@@ -27,8 +42,10 @@ message_of table Words = codes "words"
 message_of table (Value option) = codes "value: " ++ option_text option
 message_of table Table = codes "table"
 message_of table Alphabet = codes "alphabet"
+message_of table (Formula fault) = codes "formula: " ++ formula_words fault
 message_of table (FileLimit which) = codes "limit: file " ++ table
 message_of table (CandidateLimit peak) = codes "limit: candidates of peak " ++ decimal peak
+message_of table (Wide formula) = codes "limit: wide of " ++ printed formula
 message_of table (ReadFault which) = codes "read fault: " ++ table
 message_of table WriteFault = codes "write fault"
 message_of table Memory = codes "memory"

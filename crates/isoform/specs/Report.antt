@@ -1,5 +1,5 @@
 -- The lines of a report. Masses are printed with 12 decimals.
-use Rattle.std.specs.Prelude.{ℕ, ◌-◌, nat_lt, List, [], ◌∷◌, ◌++◌, if◌then◌else◌, codes}
+use Rattle.std.specs.Prelude.{ℕ, ◌-◌, nat_lt, List, [], ◌∷◌, ◌++◌, take, if◌then◌else◌, codes}
 use Rattle.std.specs.List.{join_with_byte, flat_map}
 use Rattle.std.specs.Fmt.{decimal}
 use Rattle.fixed_decimal.specs.Decimal.{decimal_text}
@@ -7,6 +7,7 @@ use Rattle.element_table.specs.Elements.{TableEntries}
 use Rattle.formula_text.specs.declared.item.Item.{Item}
 use Rattle.formula_text.specs.PrintedText.{printed}
 use Rattle.formula_text.specs.Masses.{mass_of}
+use Rattle.cover_certificate.specs.Covers.{MemberEntry, CoverEntries}
 
 -- words with one space between them, and a line feed
 abbrev pub line : List (List ℕ) → List ℕ
@@ -33,3 +34,20 @@ report_head asked = line (codes "decompose" ∷ codes "1" ∷ []) ++ line (codes
 -- the report of one mass and its formulas
 unfoldable pub decompose_report : TableEntries → ℕ → List (List (Item × ℕ)) → List ℕ
 decompose_report table asked formulas = report_head asked ++ flat_map (formula_line table asked) formulas
+
+-- the lines above the isotopologues of a cover
+abbrev pub envelope_head : CoverEntries → List ℕ
+envelope_head cover =
+    line (codes "envelope" ∷ printed cover.formula ∷ [])
+    ++ line (codes "coverage" ∷ decimal cover.coverage ∷ [])
+    ++ line (codes "size" ∷ decimal cover.size ∷ [])
+    ++ line (codes "threshold" ∷ decimal cover.threshold ∷ [])
+
+-- the line of an isotopologue: its text, its mass, and the bounds of its probability
+abbrev pub member_line : MemberEntry → List ℕ
+member_line member =
+    line (codes "isotopologue" ∷ member.text ∷ mass_text member.mass ∷ decimal member.lo ∷ decimal member.hi ∷ [])
+
+-- the report of a cover: its members are the first ones of its layer
+unfoldable pub envelope_report : CoverEntries → List ℕ
+envelope_report cover = envelope_head cover ++ flat_map member_line (take cover.size cover.layer)

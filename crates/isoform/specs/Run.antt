@@ -5,7 +5,7 @@ use Rattle.outside_ports.specs.Faults.{Rose}
 use Rattle.outside_ports.specs.Putting.{append_written}
 use Rattle.isoform.specs.Answer.{answer}
 use Rattle.isoform.specs.Notes.{status_of, note_of}
-use Rattle.isoform.specs.Words.{DecomposeRequest, request_of}
+use Rattle.isoform.specs.Words.{Request, request_of, table_of}
 use Rattle.isoform.specs.declared.refusal.Refusal.{Refusal}
 use Rattle.isoform.specs.declared.refusal.Refusal.TheVariants.{ReadFault, WriteFault, Memory}
 
@@ -70,8 +70,8 @@ pub record Shows (answer : Result (List ℕ) Refusal) (names : List (List ℕ)) 
   pub receives : Receives answer before after ending
 
 -- the name of a request's table file
-abbrev pub table_of_request : Result DecomposeRequest Refusal → List (List ℕ)
-table_of_request (Ok request) = request.table ∷ []
+abbrev pub table_of_request : Result Request Refusal → List (List ℕ)
+table_of_request (Ok request) = table_of request ∷ []
 table_of_request (Err refusal) = []
 
 -- the names of the files that words ask for

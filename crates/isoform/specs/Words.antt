@@ -5,7 +5,7 @@ use Rattle.fixed_decimal.specs.Decimal.{read_decimal}
 use Rattle.fixed_decimal.specs.declared.DecimalFault.{DecimalFault}
 use Rattle.isoform.specs.Answering.{◌>>=◌}
 use Rattle.isoform.specs.declared.refusal.OptionName.{OptionName}
-use Rattle.isoform.specs.declared.refusal.OptionName.TheVariants.{Mass, Da}
+use Rattle.isoform.specs.declared.refusal.OptionName.TheVariants.{Mass, Da, Coverage}
 use Rattle.isoform.specs.declared.refusal.Refusal.{Refusal}
 use Rattle.isoform.specs.declared.refusal.Refusal.TheVariants.{Words, Value}
 
@@ -16,6 +16,22 @@ pub record DecomposeRequest : Type 0 where
   pub mass : ℕ
   pub da : ℕ
   pub alphabet : List ℕ
+
+-- the likeliest isotopologues of one formula: the table file's name, the formula's text, and the wanted
+-- coverage in 10^-18
+pub record EnvelopeRequest : Type 0 where
+  pub table : List ℕ
+  pub formula : List ℕ
+  pub coverage : ℕ
+
+pub data Request : Type 0 where
+  Decompose : DecomposeRequest → Request
+  Envelope : EnvelopeRequest → Request
+
+-- the name of a request's table file
+abbrev pub table_of : Request → List ℕ
+table_of (Decompose request) = request.table
+table_of (Envelope request) = request.table
 
 -- a word that can stand as a value: not empty, and no minus sign in front
 abbrev pub is_value : List ℕ → Bool
@@ -38,6 +54,12 @@ decompose_request table mass da alphabet =
     >>= λ m. in_range Da 0 (read_decimal 12 10000000000000 da)
     >>= λ d. Ok (record { table = table; mass = m; da = d; alphabet = alphabet })
 
+-- the coverage that the value of `--coverage` spells: from 10^-18 to 0.999999
+unfoldable pub envelope_request : List ℕ → List ℕ → List ℕ → Result EnvelopeRequest Refusal
+envelope_request table formula coverage =
+    in_range Coverage 1 (read_decimal 18 999999000000000000 coverage)
+    >>= λ c. Ok (record { table = table; formula = formula; coverage = c })
+
 -- the word at a place, from 0
 abbrev pub word : List (List ℕ) → ℕ → List ℕ
 word words place = slice_index_or words place []
@@ -51,9 +73,19 @@ is_decompose words =
     && gives_option (codes "--da") (word words 5) (word words 6)
     && gives_option (codes "--alphabet") (word words 7) (word words 8)
 
+-- seven words that are `envelope --table F --formula T --coverage C`, in this order
+abbrev pub is_envelope : List (List ℕ) → Bool
+is_envelope words =
+    bytes_eq (word words 0) (codes "envelope")
+    && gives_option (codes "--table") (word words 1) (word words 2)
+    && gives_option (codes "--formula") (word words 3) (word words 4)
+    && gives_option (codes "--coverage") (word words 5) (word words 6)
+
 -- what the words ask for
-unfoldable pub request_of : List (List ℕ) → Result DecomposeRequest Refusal
+unfoldable pub request_of : List (List ℕ) → Result Request Refusal
 request_of words =
     if (length words == 9) && is_decompose words
-    then decompose_request (word words 2) (word words 4) (word words 6) (word words 8)
-    else Err Words
+    then (decompose_request (word words 2) (word words 4) (word words 6) (word words 8) >>= λ request. Ok (Decompose request))
+    else (if (length words == 7) && is_envelope words
+    then (envelope_request (word words 2) (word words 4) (word words 6) >>= λ request. Ok (Envelope request))
+    else Err Words)

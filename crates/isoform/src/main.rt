@@ -1,12 +1,19 @@
-//! Isoform: the molecular formulas of accurate masses, in whole numbers of stated units.
+//! Isoform: the molecular formulas of accurate masses and the likeliest isotopologues of formulas, in whole
+//! numbers of stated units.
 //!
 //! [`run`](run::run) is the program: from its words and a shelf of files to what an output and notes
 //! receive, and a status. `main` only hands it the process's own.
+//!
+//! Contracts see words and reports as their bytes, and files and streams as `outside_ports` shows them. The
+//! program stands on `element_table` and `formula_text` for what it reads, on `decompose` for the formulas of
+//! a mass, on `cover_certificate` for the cover of a formula, on `fixed_decimal` and `itoa` for numbers, and
+//! on `outside_ports` for its devices. Nothing stands above it. It gives [`cover_of`] and its types out too.
 #![tactic(auto)]
 
 mod alphabet;
 mod answer;
 mod candidates;
+mod envelope;
 mod refusal;
 mod report;
 mod request;
@@ -16,8 +23,11 @@ mod words;
 use outside_ports::{FileShelf, StreamSink};
 
 #[cfg(test)]
+mod envelope_tests;
+#[cfg(test)]
 mod tests;
 
+pub use cover_certificate::{Cover, CoverFault, CoverMember, cover_of};
 pub use run::run;
 use std::alloc::AllocError;
 use std::process::ExitCode;

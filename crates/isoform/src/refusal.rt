@@ -1,8 +1,10 @@
 // Why a run ends without its report, and the note that it leaves.
-ghost use Rattle.std.specs.Prelude.{◌≡◌, IfOk, string_bytes};
-ghost use Rattle.isoform.specs.Notes.{note_of, status_of, option_text};
+ghost use Rattle.std.specs.Prelude.{◌≡◌, ◌++◌, ◌∷◌, [], IfOk, codes, string_bytes};
+ghost use Rattle.formula_text.specs.PrintedText.{printed};
+ghost use Rattle.isoform.specs.Notes.{note_of, status_of, option_text, formula_words};
 ghost use Rattle.isoform.specs.declared.refusal.Refusal.TheVariants.{Memory};
 
+use formula_text::{Formula, FormulaFault};
 use std::alloc::{AllocError, Global};
 
 /// An option whose value has a range.
@@ -12,6 +14,8 @@ pub enum OptionName {
     Mass,
     /// `--da`
     Da,
+    /// `--coverage`
+    Coverage,
 }
 
 impl OptionName {
@@ -22,6 +26,7 @@ impl OptionName {
         match self {
             OptionName::Mass => "--mass",
             OptionName::Da => "--da",
+            OptionName::Coverage => "--coverage",
         }
     }
 }
@@ -34,7 +39,7 @@ pub enum InputFile {
 }
 
 /// Why a run ends without its report.
-#[derive(Clone, Copy, Debug, PartialEq, Eq)]
+#[derive(Debug, Drop)]
 pub enum Refusal {
     /// The words are no request.
     Words,
@@ -45,10 +50,14 @@ pub enum Refusal {
     /// The alphabet has another form, a symbol that the table doesn't have or one twice, or more
     /// than 20 symbols.
     Alphabet,
+    /// The text of the formula has a fault, which is never want of memory.
+    Formula(FormulaFault),
     /// A file is longer than its limit.
     FileLimit(InputFile),
     /// The peak has more than 1,048,576 candidates.
     CandidateLimit { peak: u64 },
+    /// The formula has more than 1,048,576 isotopologues.
+    Wide(Formula),
     /// A file could not be read.
     ReadFault(InputFile),
     /// The report could not be written.
@@ -67,14 +76,14 @@ impl From<AllocError> for Refusal {
 
 impl Refusal {
     /// The exit status.
-    pub fn status(self) -> u8
-        ensures { result ≡ status_of self }
+    pub fn status(&self) -> u8
+        ensures { result ≡ status_of self.now }
     {
         match self {
             Refusal::Words | Refusal::Value(_) => 2,
             Refusal::Table => 3,
-            Refusal::Alphabet => 5,
-            Refusal::FileLimit(_) | Refusal::CandidateLimit { .. } => 6,
+            Refusal::Alphabet | Refusal::Formula(_) => 5,
+            Refusal::FileLimit(_) | Refusal::CandidateLimit { .. } | Refusal::Wide(_) => 6,
             Refusal::ReadFault(_) => 7,
             Refusal::WriteFault => 8,
             Refusal::Memory => 9,
@@ -82,10 +91,10 @@ impl Refusal {
     }
 
     /// The note, one line. `table` is the name of the table file.
-    pub fn note(self, alloc: Global, table: &str) -> Result<String, AllocError>
-        ensures { IfOk result (λ note. string_bytes note ≡ note_of table.now self) }
+    pub fn note(&self, alloc: Global, table: &str) -> Result<Vec<u8>, AllocError>
+        ensures { IfOk result (λ note. note.items ≡ note_of table.now self.now) }
     {
-        match self {
+        let note = match self {
             Refusal::Words => String::from_str(alloc, "isoform: words\n"),
             Refusal::Value(option) => {
                 let option = option.text();
@@ -93,17 +102,47 @@ impl Refusal {
             }
             Refusal::Table => String::from_str(alloc, "isoform: table\n"),
             Refusal::Alphabet => String::from_str(alloc, "isoform: alphabet\n"),
+            Refusal::Formula(fault) => {
+                let words = formula_words(alloc, fault)?;
+                format!(in alloc; "isoform: formula: {words}\n")
+            }
             Refusal::FileLimit(InputFile::Table) => {
                 format!(in alloc; "isoform: limit: file {table}\n")
             }
             Refusal::CandidateLimit { peak } => {
                 format!(in alloc; "isoform: limit: candidates of peak {peak}\n")
             }
+            Refusal::Wide(formula) => return wide_note(alloc, formula),
             Refusal::ReadFault(InputFile::Table) => {
                 format!(in alloc; "isoform: read fault: {table}\n")
             }
             Refusal::WriteFault => String::from_str(alloc, "isoform: write fault\n"),
             Refusal::Memory => String::from_str(alloc, "isoform: memory\n"),
-        }
+        }?;
+        Ok(note.into_bytes())
     }
+}
+
+/// What is wrong with the text of a formula.
+fn formula_words(alloc: Global, fault: &FormulaFault) -> Result<String, AllocError>
+    ensures { IfOk result (λ words. string_bytes words ≡ formula_words fault.now) }
+{
+    match fault {
+        FormulaFault::BadText { place } => format!(in alloc; "bad text at {place}"),
+        FormulaFault::UnknownSymbol { place } => format!(in alloc; "unknown symbol at {place}"),
+        FormulaFault::TooManyAtoms => String::from_str(alloc, "too many atoms"),
+        FormulaFault::TooManyElements => String::from_str(alloc, "too many elements"),
+        FormulaFault::Empty => String::from_str(alloc, "empty"),
+        FormulaFault::Memory(_) => String::from_str(alloc, "memory"),
+    }
+}
+
+/// The note of a formula that has too many isotopologues.
+fn wide_note(alloc: Global, formula: &Formula) -> Result<Vec<u8>, AllocError>
+    ensures { IfOk result (λ note. note.items ≡ codes "isoform: limit: wide of " ++ printed formula.now ++ 10 ∷ []) }
+{
+    let mut note = Vec::from_slice(alloc, b"isoform: limit: wide of ")?;
+    note.extend_from_slice(&formula.print()?)?;
+    note.push(b'\n')?;
+    Ok(note)
 }

@@ -6,6 +6,7 @@ ghost use Rattle.isoform.specs.Report.{formula_line, report_head, mass_text, dif
 use element_table::Table;
 use fixed_decimal::Fixed;
 use formula_text::Formula;
+use itoa::Buffer;
 use std::alloc::{AllocError, Global};
 
 /// The lines above the formulas of a mass in 10^-12 Da.
@@ -43,7 +44,7 @@ pub fn push_formula_line(
 }
 
 /// Appends a word and the byte behind it.
-fn push_word(report: &mut Vec<u8>, word: &[u8], end: u8) -> Result<(), AllocError>
+pub fn push_word(report: &mut Vec<u8>, word: &[u8], end: u8) -> Result<(), AllocError>
     ensures { OnOk result (report.new.items ≡ report.old.items ++ (word.now ++ end ∷ [])) }
 {
     report.extend_from_slice(word)?;
@@ -52,7 +53,7 @@ fn push_word(report: &mut Vec<u8>, word: &[u8], end: u8) -> Result<(), AllocErro
 }
 
 /// A mass with 12 decimals.
-fn mass_text(alloc: Global, mass: u64) -> Result<Vec<u8>, AllocError>
+pub fn mass_text(alloc: Global, mass: u64) -> Result<Vec<u8>, AllocError>
     ensures { IfOk result (λ text. text.items ≡ mass_text mass) }
 {
     Fixed::<12>::of(mass).print(alloc)
@@ -66,7 +67,7 @@ fn difference_text(alloc: Global, a: u64, b: u64) -> Result<Vec<u8>, AllocError>
     if a < b {
         text.push(b'-')?;
     }
-    let difference = a.abs_diff(b).to_string(alloc)?;
-    text.extend_from_slice(difference.as_bytes())?;
+    let mut digits = Buffer::new();
+    text.extend_from_slice(digits.format(a.abs_diff(b)).as_bytes())?;
     Ok(text)
 }

@@ -6,12 +6,14 @@ ghost use Rattle.outside_ports.specs.Putting.{append_written, AppendsPiece, Coun
 ghost use Rattle.isoform.specs.Answering.{Gives};
 ghost use Rattle.isoform.specs.Answer.{answer, answer_of_request, answer_of_bytes, bytes_within};
 ghost use Rattle.isoform.specs.Notes.{note_of, status_of};
+ghost use Rattle.isoform.specs.Words.{request_of, table_of};
 ghost use Rattle.isoform.specs.Requested.{requested};
+ghost use Rattle.isoform.specs.Printed.{Writes, WritesFor};
 ghost use Rattle.isoform.specs.Run.{Ending, OfFiles, Outside, Shows, TellsNote, IsTold, Fetched, CountsFetchOf, AsksName, IsPut, Runs, outside, table_name, file_names, status_of_answer};
 
 use crate::answer::report_of;
 use crate::refusal::{InputFile, Refusal};
-use crate::request::DecomposeRequest;
+use crate::request::Request;
 use crate::words::request_of;
 use outside_ports::{Failed, FetchFault, Shelf, Sink};
 use std::alloc::{AllocError, Global};
@@ -20,9 +22,9 @@ use std::alloc::{AllocError, Global};
 const TABLE_LIMIT: u64 = 16_777_216;
 
 /// The notes that take no memory.
-const WRITE_FAULT_NOTE: &str = "isoform: write fault\n";
+const WRITE_FAULT_NOTE: &[u8] = b"isoform: write fault\n";
 
-const MEMORY_NOTE: &str = "isoform: memory\n";
+const MEMORY_NOTE: &[u8] = b"isoform: memory\n";
 
 /// Fetches the table file.
 fn fetch_table<H: Shelf>(alloc: Global, name: &String, shelf: &mut H) -> Result<Vec<u8>, Refusal>
@@ -71,17 +73,19 @@ fn line_len(text: &[u8]) -> usize
 /// Serves a request: fetches its table, and writes the report or says why there is none.
 fn serve_request<H: Shelf, O: Sink>(
     alloc: Global,
-    request: &DecomposeRequest<'_>,
+    request: &Request<'_>,
     shelf: &mut H,
     out: &mut O,
 ) -> Result<(), Refusal>
     ensures held { H.held shelf.new ≡ H.held shelf.old }
     ensures shows { OfFiles (H.held shelf.old) (λ files. Shows
-        (answer_of_request (requested request.now) files) (string_bytes request.now.table.now ∷ [])
+        (answer_of_request (requested request.now) files) (table_of (requested request.now) ∷ [])
         (outside (H.asked shelf.old) (H.faults shelf.old) (O.written out.old) (O.faults out.old))
         (outside (H.asked shelf.new) (H.faults shelf.new) (O.written out.new) (O.faults out.new)) result) }
+    ensures writes { IfOk result (λ _. OfFiles (H.held shelf.old) (λ files.
+        Writes (requested request.now) files (O.written out.old) (O.written out.new))) }
 {
-    let bytes = fetch_table(alloc, request.table, shelf)?;
+    let bytes = fetch_table(alloc, request.table(), shelf)?;
     let report = report_of(alloc, request, &bytes)?;
     write_lines(&report, out).map_err(|_| Refusal::WriteFault)
 }
@@ -98,6 +102,8 @@ fn serve<H: Shelf, O: Sink>(
         (answer (map string_bytes words.now) files) (file_names (map string_bytes words.now))
         (outside (H.asked shelf.old) (H.faults shelf.old) (O.written out.old) (O.faults out.old))
         (outside (H.asked shelf.new) (H.faults shelf.new) (O.written out.new) (O.faults out.new)) result) }
+    ensures writes { IfOk result (λ _. OfFiles (H.held shelf.old) (λ files.
+        WritesFor (request_of (map string_bytes words.now)) files (O.written out.old) (O.written out.new))) }
 {
     let request = request_of(words)?;
     serve_request(alloc, &request, shelf, out)
@@ -108,7 +114,7 @@ fn table_name(words: &[String]) -> &str
     ensures { result.now ≡ table_name (map string_bytes words.now) }
 {
     match request_of(words) {
-        Ok(request) => request.table.as_str(),
+        Ok(request) => request.table().as_str(),
         Err(_) => "",
     }
 }
@@ -119,11 +125,11 @@ fn refuse<M: Sink>(alloc: Global, refusal: Refusal, table: &str, notes: &mut M) 
     ensures { (told : Refusal) × IsTold refusal told × (result ≡ status_of told)
         × TellsNote table.now (M.written notes.old) (M.faults notes.old) (M.written notes.new) (M.faults notes.new) (Err told) }
 {
-    match refusal {
+    match &refusal {
         Refusal::WriteFault => tell(WRITE_FAULT_NOTE, notes),
         Refusal::Memory => tell(MEMORY_NOTE, notes),
         _ => match refusal.note(alloc, table) {
-            Ok(note) => tell(note.as_str(), notes),
+            Ok(note) => tell(&note, notes),
             Err(AllocError) => {
                 tell(MEMORY_NOTE, notes);
                 return Refusal::Memory.status();
@@ -134,18 +140,19 @@ fn refuse<M: Sink>(alloc: Global, refusal: Refusal, table: &str, notes: &mut M) 
 }
 
 /// Puts a note. That it may fail changes nothing else.
-fn tell<M: Sink>(note: &str, notes: &mut M)
+fn tell<M: Sink>(note: &[u8], notes: &mut M)
     ensures { IsPut note.now (M.written notes.old) (M.faults notes.old) (M.written notes.new) (M.faults notes.new) }
 {
-    let _ = notes.put(note.as_bytes());
+    let _ = notes.put(note);
 }
 
 /// Runs the program on the words behind its name, and answers its exit status.
 ///
 /// Status 0: the report was written. 2: the words are no request, or a value is outside its range.
-/// 3: the table has a fault. 5: the alphabet has one. 6: the table file is longer than 16,777,216
-/// bytes, or there are more than 1,048,576 candidates. 7: a file could not be read. 8: the report
-/// could not be written. 9: want of memory. With every status but 0 the notes receive one line.
+/// 3: the table has a fault. 5: the alphabet or the formula has one. 6: the table file is longer than
+/// 16,777,216 bytes, or there are more than 1,048,576 candidates, or the formula has more than 1,048,576
+/// isotopologues. 7: a file could not be read. 8: the report could not be written. 9: want of memory.
+/// With every status but 0 the notes receive one line.
 pub fn run<H: Shelf, O: Sink, M: Sink>(
     alloc: Global,
     words: &Vec<String>,
@@ -166,6 +173,11 @@ pub fn run<H: Shelf, O: Sink, M: Sink>(
     // Its main parts, one by one. Status 0: `out` received the report of the answer.
     ensures reported { result ≡ 0 → OfFiles (H.held shelf.old) (λ files. IsOkAnd (answer (map string_bytes words.now.items) files)
         (λ report. O.written out.new ≡ append_written (O.written out.old) report)) }
+
+    // What it received for `envelope` is the report of a cover: each printed enclosure holds the exact probability of its
+    // isotopologue, and the printed set reaches the wanted coverage in exact weights wherever its `lo` total does.
+    ensures covered { result ≡ 0 → OfFiles (H.held shelf.old) (λ files.
+        WritesFor (request_of (map string_bytes words.now.items)) files (O.written out.old) (O.written out.new)) }
 
     // Where no device failed the status is the answer's, unless memory ran out.
     ensures answered { ¬ Rose (H.faults shelf.old) (H.faults shelf.new) → ¬ Rose (O.faults out.old) (O.faults out.new) →

@@ -5,7 +5,7 @@ use std::alloc::{AllocError, Global};
 use std::process::Abort;
 use std::test::Fail;
 
-const ELEMENTS: &[u8] =
+pub const ELEMENTS: &[u8] =
     b"symbol,number,mass,abundance,valence\ne-,0,0.000548579909,0,0\nH,1,1.00782503223,0.999885,1\nH,2,2.01410177812,0.000115,1\nC,12,12,0.9893,4\nC,13,13.00335483507,0.0107,4\nO,16,15.99491461957,0.99757,2\nO,17,16.99913175650,0.00038,2\nO,18,17.99915961286,0.00205,2\n";
 
 const AB: &[u8] =
@@ -49,7 +49,7 @@ fn decompose_words(
     Ok(words)
 }
 
-fn shelf_with(alloc: Global, table: &[u8]) -> Result<MemoryShelf, AllocError> {
+pub fn shelf_with(alloc: Global, table: &[u8]) -> Result<MemoryShelf, AllocError> {
     let mut shelf = MemoryShelf::new(alloc);
     shelf.add(String::from_str(alloc, "t.csv")?, table.to_vec(alloc)?)?;
     Ok(shelf)

@@ -19,6 +19,6 @@ returns g c =
       elim c.match-refusal.branch [
         | in-WriteFault w ↦ put_as g.M.Sink.written g.M.Sink.faults c.args.notes.now w.tell.new.notes c.match-refusal.notes _ (note c.args.refusal) w.notes-is (ap note (sym w.in-WriteFault.is)) w.tell.ensures
         | in-Memory w ↦ put_as g.M.Sink.written g.M.Sink.faults c.args.notes.now w.tell-in-Memory.new.notes c.match-refusal.notes _ (note c.args.refusal) w.notes-is (ap note (sym w.in-Memory.is)) w.tell-in-Memory.ensures
-        | in_default+in-Ok w ↦ put_as g.M.Sink.written g.M.Sink.faults c.args.notes.now w.tell-in-Ok.new.notes c.match-refusal.notes _ (note c.args.refusal) w.notes-is (w.as_str.ensures.value ∙ w.in-Ok.ensures) w.tell-in-Ok.ensures
+        | in_default+in-Ok w ↦ put_as g.M.Sink.written g.M.Sink.faults c.args.notes.now w.tell-in-Ok.new.notes c.match-refusal.notes _ (note c.args.refusal) w.notes-is (w.deref.ensures.value ∙ w.in-Ok.ensures) w.tell-in-Ok.ensures
       ],
     )

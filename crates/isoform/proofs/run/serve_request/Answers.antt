@@ -17,7 +17,7 @@ returns-in_err-report-clause-shows g c =
     rw (given.1, given.2)
     (of_files_map
     (λ files fetched.
-    part_shows _ (answer_of_bytes request bytes) _ _ _ refusal (answer_of_bytes_content request bytes) c.in_err-report.ensures
+    part_shows _ (answer_of_bytes request bytes) _ _ _ refusal (answer_of_bytes_content request bytes) c.in_err-report.ensures.value
     (λ is. answer-fetched request files c.in_ok-bytes.bytes.items (Err refusal) fetched (ap (answer_of_bytes request) (sym c.deref.ensures.value) ∙ is))
-    c.in_ok-bytes.ensures.asks c.in_ok-bytes.ensures.counts refl refl)
-    c.in_ok-bytes.ensures.fetched)
+    (rw c.table.ensures at c.in_ok-bytes.ensures.asks) c.in_ok-bytes.ensures.counts refl refl)
+    (rw c.table.ensures at c.in_ok-bytes.ensures.fetched))

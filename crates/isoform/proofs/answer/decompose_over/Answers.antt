@@ -1,15 +1,15 @@
 use Rattle.std.proofs.Common.{ap, sym, ◌∙◌}
-use Rattle.isoform.specs.Requested.{requested}
+use Rattle.isoform.specs.Requested.{decompose_requested}
 use Rattle.isoform.specs.Alphabet.{alphabet_of}
 use Rattle.isoform.specs.Candidates.{candidates, with_lines}
 use Rattle.isoform.specs.Report.{formula_line}
 use Rattle.isoform.proofs.ReportLines.{answer-alphabet}
-use Rattle.isoform.proofs.answer.report_over.Goals as goal
+use Rattle.isoform.proofs.answer.decompose_over.Goals as goal
 
 pub returns : goal.returns
 returns c =
     let table = c.args.table.now in
-    let request = requested c.args.request.now in
+    let request = decompose_requested c.args.request.now in
     let line = formula_line table request.mass in
     let alphabet = c.in_ok-alphabet.alphabet.items in
     let head = c.in_ok-report.report.items in

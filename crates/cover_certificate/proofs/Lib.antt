@@ -1,0 +1,3 @@
+pub mod CountsLemmas
+pub mod Members
+pub mod ExactWeights

@@ -1,0 +1,257 @@
+// Whole runs of `envelope`: the worked examples, and what is refused.
+use crate::run;
+use crate::tests::{ELEMENTS, shelf_with};
+use outside_ports::MemorySink;
+use std::alloc::{AllocError, Global};
+use std::process::Abort;
+use std::test::Fail;
+
+/// Two isotopes of equal weight, and three; one of an element whose second isotope doesn't occur.
+const EQUAL: &[u8] =
+    b"symbol,number,mass,abundance,valence\ne-,0,0.000548579909,0,0\nX,10,10,0.5,1\nX,11,11,0.5,1\nY,20,20,0.3,2\nY,21,21,0.3,2\nY,22,22,0.3,2\nW,30,30,0.25,1\nW,31,31,0,1\nW,32,32,0.75,1\n";
+
+/// Sixteen isotopes of equal weight.
+const SIXTEEN: &[u8] =
+    b"symbol,number,mass,abundance,valence\ne-,0,0.000548579909,0,0\nZ,30,30,0.05,1\nZ,31,31,0.05,1\nZ,32,32,0.05,1\nZ,33,33,0.05,1\nZ,34,34,0.05,1\nZ,35,35,0.05,1\nZ,36,36,0.05,1\nZ,37,37,0.05,1\nZ,38,38,0.05,1\nZ,39,39,0.05,1\nZ,40,40,0.05,1\nZ,41,41,0.05,1\nZ,42,42,0.05,1\nZ,43,43,0.05,1\nZ,44,44,0.05,1\nZ,45,45,0.05,1\n";
+
+/// What a run is given, and what it must answer.
+#[derive(Clone, Copy)]
+struct Case {
+    formula: &'static str,
+    coverage: &'static str,
+    table: &'static [u8],
+    status: u8,
+    out: &'static [u8],
+    note: &'static [u8],
+}
+
+fn envelope_words(alloc: Global, formula: &str, coverage: &str) -> Result<Vec<String>, AllocError> {
+    let mut words = Vec::new(alloc);
+    for word in [
+        "envelope",
+        "--table",
+        "t.csv",
+        "--formula",
+        formula,
+        "--coverage",
+        coverage,
+    ] {
+        words.push(String::from_str(alloc, word)?)?;
+    }
+    Ok(words)
+}
+
+fn check_cases(rt: &impl Abort, alloc: Global, cases: &[Case]) -> Result<(), AllocError> {
+    for case in cases {
+        let words = envelope_words(alloc, case.formula, case.coverage)?;
+        let mut shelf = shelf_with(alloc, case.table)?;
+        let mut out = MemorySink::new(alloc, 4096)?;
+        let mut notes = MemorySink::new(alloc, 4096)?;
+        let status = run(alloc, &words, &mut shelf, &mut out, &mut notes);
+        assert!(rt; status == case.status, "{} {}", case.formula, case.coverage);
+        assert!(rt;
+            out.bytes() == case.out,
+            "{} {}",
+            case.formula,
+            case.coverage
+        );
+        assert!(rt;
+            notes.bytes() == case.note,
+            "{} {}",
+            case.formula,
+            case.coverage
+        );
+    }
+    Ok(())
+}
+
+#[test]
+fn covers_of_formulas(rt: HostRuntime) -> Result<(), Fail> {
+    let cases = [
+        // The mode alone has the coverage.
+        Case {
+            formula: "X2",
+            coverage: "0.5",
+            table: EQUAL,
+            status: 0,
+            out: b"envelope X2\ncoverage 500000000000000000\nsize 1\nthreshold 250000000000000000\nisotopologue [10X][11X] 21.000000000000 500000000000000000 500000000000000000\n",
+            note: b"",
+        },
+        // The outer two tie, and stand in lexicographic order.
+        Case {
+            formula: "X2",
+            coverage: "0.75",
+            table: EQUAL,
+            status: 0,
+            out: b"envelope X2\ncoverage 750000000000000000\nsize 2\nthreshold 125000000000000000\nisotopologue [10X][11X] 21.000000000000 500000000000000000 500000000000000000\nisotopologue [11X]2 22.000000000000 250000000000000000 250000000000000000\n",
+            note: b"",
+        },
+        // The greatest coverage, and the least.
+        Case {
+            formula: "X2",
+            coverage: "0.999999",
+            table: EQUAL,
+            status: 0,
+            out: b"envelope X2\ncoverage 999999000000000000\nsize 3\nthreshold 125000000000000000\nisotopologue [10X][11X] 21.000000000000 500000000000000000 500000000000000000\nisotopologue [11X]2 22.000000000000 250000000000000000 250000000000000000\nisotopologue [10X]2 20.000000000000 250000000000000000 250000000000000000\n",
+            note: b"",
+        },
+        Case {
+            formula: "X2",
+            coverage: "0.000000000000000001",
+            table: EQUAL,
+            status: 0,
+            out: b"envelope X2\ncoverage 1\nsize 1\nthreshold 250000000000000000\nisotopologue [10X][11X] 21.000000000000 500000000000000000 500000000000000000\n",
+            note: b"",
+        },
+        // The lower bounds of two thirds just miss the coverage.
+        Case {
+            formula: "Y",
+            coverage: "0.666666666666666667",
+            table: EQUAL,
+            status: 0,
+            out: b"envelope Y\ncoverage 666666666666666667\nsize 3\nthreshold 166666666666666667\nisotopologue [22Y] 22.000000000000 333333333333333333 333333333333333334\nisotopologue [21Y] 21.000000000000 333333333333333333 333333333333333334\nisotopologue [20Y] 20.000000000000 333333333333333333 333333333333333334\n",
+            note: b"",
+        },
+        // Two elements.
+        Case {
+            formula: "CO2",
+            coverage: "0.99",
+            table: ELEMENTS,
+            status: 0,
+            out: b"envelope CO2\ncoverage 990000000000000000\nsize 2\nthreshold 7691389404043515\nisotopologue [12C][16O]2 43.989829239140 984497843717570000 984497843717570000\nisotopologue [13C][16O]2 44.993184074210 10648061182430000 10648061182430000\n",
+            note: b"",
+        },
+        // Items that repeat are added up, and printed in Hill order.
+        Case {
+            formula: "O0COO",
+            coverage: "0.9",
+            table: ELEMENTS,
+            status: 0,
+            out: b"envelope CO2\ncoverage 900000000000000000\nsize 1\nthreshold 492248921858785000\nisotopologue [12C][16O]2 43.989829239140 984497843717570000 984497843717570000\n",
+            note: b"",
+        },
+        // The isotope of weight 0 takes no part.
+        Case {
+            formula: "W2",
+            coverage: "0.9",
+            table: EQUAL,
+            status: 0,
+            out: b"envelope W2\ncoverage 900000000000000000\nsize 2\nthreshold 281250000000000000\nisotopologue [32W]2 64.000000000000 562500000000000000 562500000000000000\nisotopologue [30W][32W] 62.000000000000 375000000000000000 375000000000000000\n",
+            note: b"",
+        },
+    ];
+    check_cases(&rt, rt.alloc(), &cases)?;
+    Ok(())
+}
+
+#[test]
+fn coverages_out_of_range_are_refused(rt: HostRuntime) -> Result<(), Fail> {
+    for coverage in [
+        "0",
+        "0.9999991",
+        "1",
+        "0.0000000000000000001",
+        "0.5.",
+        "half",
+        "1000000000000000000000",
+    ] {
+        let case = Case {
+            formula: "H0",
+            coverage,
+            table: b"",
+            status: 2,
+            out: b"",
+            note: b"isoform: value: --coverage\n",
+        };
+        check_cases(&rt, rt.alloc(), &[case])?;
+    }
+    Ok(())
+}
+
+#[test]
+fn formulas_with_a_fault_are_refused(rt: HostRuntime) -> Result<(), Fail> {
+    let cases: [(&str, &[u8]); 9] = [
+        ("H0", b"isoform: formula: empty\n"),
+        ("Qa", b"isoform: formula: unknown symbol at 0\n"),
+        ("COQa", b"isoform: formula: unknown symbol at 2\n"),
+        ("C2h", b"isoform: formula: bad text at 2\n"),
+        ("[13C]", b"isoform: formula: bad text at 0\n"),
+        ("2C", b"isoform: formula: bad text at 0\n"),
+        ("C10001", b"isoform: formula: too many atoms\n"),
+        ("C10000H10000O", b"isoform: formula: too many atoms\n"),
+        (
+            "H99999999999999999999",
+            b"isoform: formula: too many atoms\n",
+        ),
+    ];
+    for (formula, note) in cases {
+        let case = Case {
+            formula,
+            coverage: "0.5",
+            table: ELEMENTS,
+            status: 5,
+            out: b"",
+            note,
+        };
+        check_cases(&rt, rt.alloc(), &[case])?;
+    }
+    Ok(())
+}
+
+#[test]
+fn a_table_with_a_fault_comes_before_the_formula(rt: HostRuntime) -> Result<(), Fail> {
+    let case = Case {
+        formula: "H0",
+        coverage: "0.5",
+        table: b"",
+        status: 3,
+        out: b"",
+        note: b"isoform: table\n",
+    };
+    check_cases(&rt, rt.alloc(), &[case])?;
+    Ok(())
+}
+
+#[test]
+fn wide_formulas_are_refused(rt: HostRuntime) -> Result<(), Fail> {
+    let cases = [
+        Case {
+            formula: "Z100",
+            coverage: "0.5",
+            table: SIXTEEN,
+            status: 6,
+            out: b"",
+            note: b"isoform: limit: wide of Z100\n",
+        },
+        Case {
+            formula: "O5000H5000C",
+            coverage: "0.5",
+            table: ELEMENTS,
+            status: 6,
+            out: b"",
+            note: b"isoform: limit: wide of CH5000O5000\n",
+        },
+    ];
+    check_cases(&rt, rt.alloc(), &cases)?;
+    Ok(())
+}
+
+#[test]
+fn other_words_ask_for_no_envelope(rt: HostRuntime) -> Result<(), Fail> {
+    let alloc = rt.alloc();
+    // A value that begins with a minus sign, one that is empty, and one word more.
+    let minus = envelope_words(alloc, "C", "-0.5")?;
+    let empty = envelope_words(alloc, "", "0.5")?;
+    let mut more = envelope_words(alloc, "C", "0.5")?;
+    more.push(String::from_str(alloc, "more")?)?;
+    for words in vec![in alloc; minus, empty, more]? {
+        let mut shelf = shelf_with(alloc, ELEMENTS)?;
+        let mut out = MemorySink::new(alloc, 4096)?;
+        let mut notes = MemorySink::new(alloc, 4096)?;
+        let status = run(alloc, &words, &mut shelf, &mut out, &mut notes);
+        assert_eq!(rt; status, 2);
+        assert!(rt; out.bytes().is_empty());
+        assert!(rt; notes.bytes() == b"isoform: words\n".as_slice());
+    }
+    Ok(())
+}
