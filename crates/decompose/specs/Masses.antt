@@ -13,6 +13,10 @@ pub record AreMasses (masses : List ℕ) : Type 0 where
 abbrev pub base_of : List ℕ → ℕ
 base_of masses = slice_index masses (length masses - 1)
 
+-- the greatest last mass that there are tables for: 400 Da
+abbrev pub heaviest_base : ℕ
+heaviest_base = 400_000_000_000_000
+
 -- the mass of a list of counts: each count times its mass, summed up
 abbrev pub mass_of : List ℕ → List ℕ → ℕ
 mass_of [] counts = 0

@@ -19,7 +19,7 @@ pub use bounds::{Limit, Window};
 pub use count_list::Counts;
 pub use enumerate::Decomps;
 pub use faults::{ResumeFault, ScaleFault};
-pub use mass_tables::{HEAVIEST_BASE, Tables};
+pub use mass_tables::Tables;
 
 #[cfg(test)]
 mod tests;

@@ -1,13 +1,12 @@
 ghost use Rattle.std.specs.Prelude.{◌≡◌, ◌<◌, ◌≤◌, ◌↔◌, IfOk, OnOk, IsErrOf};
-ghost use Rattle.decompose.specs.Masses.{AreMasses, base_of};
-ghost use Rattle.decompose.specs.declared.mass_tables.TheConstants.{HEAVIEST_BASE};
+ghost use Rattle.decompose.specs.Masses.{AreMasses, base_of, heaviest_base};
 
 use crate::faults::ScaleFault;
 use std::alloc::{AllocError, Global};
 use std::marker::Model;
 
 /// The greatest mass that the last symbol of an alphabet may have: 400 Da, in 10^-12 Da.
-pub const HEAVIEST_BASE: u64 = 400_000_000_000_000;
+const HEAVIEST_BASE: u64 = 400_000_000_000_000;
 
 /// What the search for count lists knows of an alphabet. It is seen as the masses of its symbols,
 /// in 10^-12 Da, falling or equal.
@@ -35,8 +34,8 @@ impl Tables {
     pub fn of(alloc: Global, masses: &[u64]) -> Result<Tables, ScaleFault>
         requires { AreMasses masses.now }
         ensures masses { IfOk result (λ t. t ≡ masses.now) }
-        ensures light_enough { OnOk result (base_of masses.now ≤ HEAVIEST_BASE) }
-        ensures too_heavy { IsErrOf result ScaleFault.BaseTooHeavy ↔ (HEAVIEST_BASE < base_of masses.now) }
+        ensures light_enough { OnOk result (base_of masses.now ≤ heaviest_base) }
+        ensures too_heavy { IsErrOf result ScaleFault.BaseTooHeavy ↔ (heaviest_base < base_of masses.now) }
     {
         if masses[masses.len() - 1] > HEAVIEST_BASE {
             return Err(ScaleFault::BaseTooHeavy);

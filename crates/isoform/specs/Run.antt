@@ -7,11 +7,17 @@ use Rattle.isoform.specs.Answer.{answer}
 use Rattle.isoform.specs.Notes.{status_of, note_of}
 use Rattle.isoform.specs.Words.{Request, request_of, table_of}
 use Rattle.isoform.specs.declared.refusal.Refusal.{Refusal}
+use Rattle.isoform.specs.declared.refusal.Refused.{Refused}
 use Rattle.isoform.specs.declared.refusal.Refusal.TheVariants.{ReadFault, WriteFault, Memory}
 
 -- how a run ends: its report is written, or there is a refusal
 abbrev pub Ending : Type 0
 Ending = Result (Unit {0}) Refusal
+
+-- the same, of a refusal that stands beside the name of the table file
+abbrev pub ending_of : Result (Unit {0}) Refused → Ending
+ending_of (Ok done) = Ok done
+ending_of (Err refused) = Err refused.refusal
 
 -- what the shelf and the output show at one moment: the names asked and the shelf's faults, what
 -- `out` received, where it tells that, and its faults

@@ -66,6 +66,16 @@ pub enum Refusal {
     Memory,
 }
 
+/// Why a run ends without its report, beside the name of the table file, which is empty where the words ask
+/// for none.
+#[derive(Debug, Drop)]
+pub struct Refused<'w> {
+    /// The refusal.
+    pub refusal: Refusal,
+    /// The name of the table file.
+    pub table: &'w str,
+}
+
 impl From<AllocError> for Refusal {
     ghost from_gives = { λ _ refusal. refusal ≡ Memory };
 

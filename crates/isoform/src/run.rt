@@ -1,5 +1,5 @@
 // The program: from its words and a shelf of files to an output, notes and a status.
-ghost use Rattle.std.specs.Prelude.{◌+◌, length, ◌≡◌, ◌≢◌, ◌<◌, ◌≤◌, ◌⊎◌, ◌∷◌, [], map, string_bytes, List, Option, Result, Ok, Err, IfOk, IsOkAnd};
+ghost use Rattle.std.specs.Prelude.{◌+◌, length, ◌≡◌, ◌≢◌, ◌<◌, ◌≤◌, ◌⊎◌, ◌∷◌, [], map, string_bytes, List, Option, Result, Ok, Err, IfOk, IfErr, IsOkAnd};
 ghost use Rattle.outside_ports.specs.Files.{Files};
 ghost use Rattle.outside_ports.specs.Faults.{Rose};
 ghost use Rattle.outside_ports.specs.Putting.{append_written, AppendsPiece, CountsPut};
@@ -9,10 +9,10 @@ ghost use Rattle.isoform.specs.Notes.{note_of, status_of};
 ghost use Rattle.isoform.specs.Words.{request_of, table_of};
 ghost use Rattle.isoform.specs.Requested.{requested};
 ghost use Rattle.isoform.specs.Printed.{Writes, WritesFor};
-ghost use Rattle.isoform.specs.Run.{Ending, OfFiles, Outside, Shows, TellsNote, IsTold, Fetched, CountsFetchOf, AsksName, IsPut, Runs, outside, table_name, file_names, status_of_answer};
+ghost use Rattle.isoform.specs.Run.{Ending, OfFiles, Outside, Shows, TellsNote, IsTold, Fetched, CountsFetchOf, AsksName, IsPut, Runs, outside, ending_of, table_name, file_names, status_of_answer};
 
 use crate::answer::report_of;
-use crate::refusal::{InputFile, Refusal};
+use crate::refusal::{InputFile, Refusal, Refused};
 use crate::request::Request;
 use crate::words::request_of;
 use outside_ports::{Failed, FetchFault, Shelf, Sink};
@@ -91,40 +91,41 @@ fn serve_request<H: Shelf, O: Sink>(
 }
 
 /// Serves the words: what they ask for, or why it is refused.
-fn serve<H: Shelf, O: Sink>(
+fn serve<'w, H: Shelf, O: Sink>(
     alloc: Global,
-    words: &[String],
+    words: &'w [String],
     shelf: &mut H,
     out: &mut O,
-) -> Result<(), Refusal>
+) -> Result<(), Refused<'w>>
     ensures held { H.held shelf.new ≡ H.held shelf.old }
     ensures shows { OfFiles (H.held shelf.old) (λ files. Shows
         (answer (map string_bytes words.now) files) (file_names (map string_bytes words.now))
         (outside (H.asked shelf.old) (H.faults shelf.old) (O.written out.old) (O.faults out.old))
-        (outside (H.asked shelf.new) (H.faults shelf.new) (O.written out.new) (O.faults out.new)) result) }
+        (outside (H.asked shelf.new) (H.faults shelf.new) (O.written out.new) (O.faults out.new)) (ending_of result)) }
     ensures writes { IfOk result (λ _. OfFiles (H.held shelf.old) (λ files.
         WritesFor (request_of (map string_bytes words.now)) files (O.written out.old) (O.written out.new))) }
+    ensures table { IfErr result (λ refused. refused.table.now ≡ table_name (map string_bytes words.now)) }
 {
-    let request = request_of(words)?;
-    serve_request(alloc, &request, shelf, out)
-}
-
-/// The name of the table file, where the words ask for one.
-fn table_name(words: &[String]) -> &str
-    ensures { result.now ≡ table_name (map string_bytes words.now) }
-{
-    match request_of(words) {
-        Ok(request) => request.table().as_str(),
-        Err(_) => "",
+    let request = match request_of(words) {
+        Ok(request) => request,
+        Err(refusal) => return Err(Refused { refusal, table: "" }),
+    };
+    match serve_request(alloc, &request, shelf, out) {
+        Ok(()) => Ok(()),
+        Err(refusal) => Err(Refused {
+            refusal,
+            table: request.table().as_str(),
+        }),
     }
 }
 
 /// Tells the notes why there is no report, and answers the status. Where there is no memory for the
 /// note, want of memory is told.
-fn refuse<M: Sink>(alloc: Global, refusal: Refusal, table: &str, notes: &mut M) -> u8
-    ensures { (told : Refusal) × IsTold refusal told × (result ≡ status_of told)
-        × TellsNote table.now (M.written notes.old) (M.faults notes.old) (M.written notes.new) (M.faults notes.new) (Err told) }
+fn refuse<M: Sink>(alloc: Global, refused: Refused<'_>, notes: &mut M) -> u8
+    ensures { (told : Refusal) × IsTold refused.entry.refusal told × (result ≡ status_of told)
+        × TellsNote refused.entry.table.now (M.written notes.old) (M.faults notes.old) (M.written notes.new) (M.faults notes.new) (Err told) }
 {
+    let Refused { refusal, table } = refused;
     match &refusal {
         Refusal::WriteFault => tell(WRITE_FAULT_NOTE, notes),
         Refusal::Memory => tell(MEMORY_NOTE, notes),
@@ -191,6 +192,6 @@ pub fn run<H: Shelf, O: Sink, M: Sink>(
 {
     match serve(alloc, words, shelf, out) {
         Ok(()) => 0,
-        Err(refusal) => refuse(alloc, refusal, table_name(words), notes),
+        Err(refused) => refuse(alloc, refused, notes),
     }
 }

@@ -1,5 +1,5 @@
 -- What a fetch of a file answers and what it leaves.
-use Rattle.std.specs.Prelude.{◌≡◌, ℕ, ◌+◌, ◌<◌, ◌⊎◌, List, [], ◌∷◌, ◌++◌, length, take, Option, Some, IsSomeAnd, Result, Ok, Err, unwrap_or}
+use Rattle.std.specs.Prelude.{◌≡◌, ℕ, ◌+◌, ◌<◌, ◌⊎◌, List, [], ◌∷◌, ◌++◌, length, take, Option, None, Some, IsSomeAnd, Result, Ok, Err, unwrap_or, ⊤}
 use Rattle.std.specs.Io.{StartsWith}
 use Rattle.outside_ports.specs.Faults.{Rose}
 use Rattle.outside_ports.specs.declared.fault.FetchFault.{FetchFault}
@@ -28,3 +28,10 @@ GivesFile file limit (Ok _) bytes = file ≡ Some bytes
 GivesFile file limit (Err TooLong) bytes = IsSomeAnd file (λ whole. (limit < length whole) × (bytes ≡ take (limit + 1) whole))
 GivesFile file limit (Err Failed) bytes = StartsWith (unwrap_or file []) bytes
 GivesFile file limit (Err Memory) bytes = StartsWith (unwrap_or file []) bytes
+
+-- What was read behind the bytes before, of a reader that tells what it has left: all of that, or as much as makes
+-- so many bytes in all; and where the reading failed, some first bytes of it.
+abbrev pub ReadsUpTo : Result (Unit {0}) FetchFault → Option (List ℕ) → ℕ → List ℕ → List ℕ → Type 0
+ReadsUpTo result None most before after = ⊤
+ReadsUpTo (Ok _) (Some left) most before after = after ≡ take most (before ++ left)
+ReadsUpTo (Err _) (Some left) most before after = StartsWith (before ++ left) after

@@ -1,6 +1,6 @@
 // A shelf over the files of a runtime.
 ghost use Rattle.std.specs.Prelude.{◌≡◌, ◌≢◌, ◌+◌, ◌≤◌, [], length, None, OnOk, IfOk, IsErrOf, string_bytes};
-ghost use Rattle.outside_ports.specs.Fetching.{Asks, CountsFetch, GivesFile};
+ghost use Rattle.outside_ports.specs.Fetching.{Asks, CountsFetch, ReadsUpTo};
 
 use crate::fault::{FetchFault, raised};
 use crate::shelf::Shelf;
@@ -75,13 +75,14 @@ fn read_file<R: Files>(
 fn read_through<F: Read>(file: &mut F, most: usize, into: &mut Vec<u8>) -> Result<(), FetchFault>
     requires { length into.old.items ≤ most }
     ensures most { length into.new.items ≤ most }
+    ensures reads { ReadsUpTo result (F.remaining file.old) most into.old.items into.new.items }
     ensures not_too_long { IsErrOf result FetchFault.TooLong → ⊥ }
 {
     let mut block = [0u8; BLOCK];
     while into.len() < most {
         let wanted = (most - into.len()).min(BLOCK);
         match file.read(&mut block[..wanted]) {
-            Ok(0) => break,
+            Ok(0) => return Ok(()),
             Ok(taken) => into.extend_from_slice(&block[..taken])?,
             Err(_) => return Err(FetchFault::Failed),
         }

@@ -11,14 +11,14 @@ returns-in-Err g c = (Memory, inr (refl, c.in_default.not-WriteFault), c.status.
 
 pub returns : goal.returns
 returns g c =
-    let table = c.args.table.now in
+    let table = c.args.refused.table.now in
     let note = λ (r : Refusal). note_of table r in (
-      c.args.refusal,
+      c.args.refused.refusal,
       inl refl,
       c.status-2.ensures,
       elim c.match-refusal.branch [
-        | in-WriteFault w ↦ put_as g.M.Sink.written g.M.Sink.faults c.args.notes.now w.tell.new.notes c.match-refusal.notes _ (note c.args.refusal) w.notes-is (ap note (sym w.in-WriteFault.is)) w.tell.ensures
-        | in-Memory w ↦ put_as g.M.Sink.written g.M.Sink.faults c.args.notes.now w.tell-in-Memory.new.notes c.match-refusal.notes _ (note c.args.refusal) w.notes-is (ap note (sym w.in-Memory.is)) w.tell-in-Memory.ensures
-        | in_default+in-Ok w ↦ put_as g.M.Sink.written g.M.Sink.faults c.args.notes.now w.tell-in-Ok.new.notes c.match-refusal.notes _ (note c.args.refusal) w.notes-is (w.deref.ensures.value ∙ w.in-Ok.ensures) w.tell-in-Ok.ensures
+        | in-WriteFault w ↦ put_as g.M.Sink.written g.M.Sink.faults c.args.notes.now w.tell.new.notes c.match-refusal.notes _ (note c.args.refused.refusal) w.notes-is (ap note (sym w.in-WriteFault.is)) w.tell.ensures
+        | in-Memory w ↦ put_as g.M.Sink.written g.M.Sink.faults c.args.notes.now w.tell-in-Memory.new.notes c.match-refusal.notes _ (note c.args.refused.refusal) w.notes-is (ap note (sym w.in-Memory.is)) w.tell-in-Memory.ensures
+        | in_default+in-Ok w ↦ put_as g.M.Sink.written g.M.Sink.faults c.args.notes.now w.tell-in-Ok.new.notes c.match-refusal.notes _ (note c.args.refused.refusal) w.notes-is (w.deref.ensures.value ∙ w.in-Ok.ensures) w.tell-in-Ok.ensures
       ],
     )

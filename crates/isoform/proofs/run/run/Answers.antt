@@ -13,12 +13,12 @@ returns-in-Err-clause-runs g c =
     let faults = g.M.Sink.faults in
     let before = c.args.notes.now in
     let after = c.refuse.new.notes in
-    let named = c.table_name.ensures ∙ ap (λ w. table_name (map string_bytes w)) c.deref-in-Err.ensures.value in
+    let named = c.in-Err.ensures.table ∙ ap (λ w. table_name (map string_bytes w)) c.deref.ensures.value in
     of_files_map
     (λ files shows. record {
       ending = Err told.0;
       status_is = told.2;
-      shows = told_shows _ _ _ _ c.in-Err.refusal told.0 told.1 (rw c.deref.ensures.value at shows);
+      shows = told_shows _ _ _ _ c.in-Err.refused.refusal told.0 told.1 (rw c.deref.ensures.value at shows);
       tells = subst (λ (table : List ℕ). IsPut (note_of table told.0) (written before) (faults before) (written after) (faults after)) named told.3;
     })
     c.in-Err.ensures.shows

@@ -1,5 +1,4 @@
-use Rattle.std.specs.Prelude.{map, string_bytes}
-use Rattle.std.proofs.lemmas.Result.{err_from_is_err_and}
+use Rattle.std.specs.Prelude.{Ok, map, string_bytes}
 use Rattle.isoform.specs.Words.{request_of}
 use Rattle.isoform.specs.Requested.{requested}
 use Rattle.isoform.proofs.Contents.{request_of_content}
@@ -7,19 +6,22 @@ use Rattle.isoform.proofs.Endings.{words_show, writes_for, refused_words_show}
 use Rattle.isoform.proofs.ToldFiles.{of_files_map, some_files}
 use Rattle.isoform.proofs.run.serve.Goals as goal
 
-pub returns-clause-shows : goal.returns-clause-shows
-returns-clause-shows g c =
+pub returns-in-Err-clause-shows : goal.returns-in-Err-clause-shows
+returns-in-Err-clause-shows g c =
     let words = map string_bytes c.args.words.now in
-    of_files_map (λ files shows. words_show words files (requested c.in_ok-request.request) _ _ _ c.in_ok-request.ensures shows) c.serve_request.ensures.shows
+    of_files_map (λ files any. refused_words_show words files _ c.in-Err.refusal (request_of_content words) c.in-Err.ensures) (some_files (g.H.Shelf.held c.args.shelf.now))
 
-pub returns-in_err-request-clause-shows : goal.returns-in_err-request-clause-shows
-returns-in_err-request-clause-shows g c =
+pub returns-in-Ok-serve_request-clause-shows : goal.returns-in-Ok-serve_request-clause-shows
+returns-in-Ok-serve_request-clause-shows g c =
     let words = map string_bytes c.args.words.now in
-    let given = err_from_is_err_and c.from_residual.result c.from_residual.ensures.1 in
-    rw (given.1, given.2)
-    (of_files_map (λ files any. refused_words_show words files _ c.in_err-request.field-0.0 (request_of_content words) c.in_err-request.ensures) (some_files (g.H.Shelf.held c.args.shelf.now)))
+    of_files_map (λ files shows. words_show words files (requested c.in-Ok.request) _ _ _ c.in-Ok.ensures shows) c.in-Ok-serve_request.ensures.shows
 
-pub returns-clause-writes : goal.returns-clause-writes
-returns-clause-writes g c =
-    writes_for c.serve_request.result (g.H.Shelf.held c.args.shelf.now) (request_of (map string_bytes c.args.words.now)) (requested c.in_ok-request.request) _ _
-    c.in_ok-request.ensures c.serve_request.ensures.writes
+pub returns-in-Err-serve_request-clause-shows : goal.returns-in-Err-serve_request-clause-shows
+returns-in-Err-serve_request-clause-shows g c =
+    let words = map string_bytes c.args.words.now in
+    of_files_map (λ files shows. words_show words files (requested c.in-Ok.request) _ _ _ c.in-Ok.ensures shows) c.in-Err-serve_request.ensures.shows
+
+pub returns-in-Ok-serve_request-clause-writes : goal.returns-in-Ok-serve_request-clause-writes
+returns-in-Ok-serve_request-clause-writes g c =
+    writes_for (Ok tt) (g.H.Shelf.held c.args.shelf.now) (request_of (map string_bytes c.args.words.now)) (requested c.in-Ok.request) _ _
+    c.in-Ok.ensures c.in-Ok-serve_request.ensures.writes

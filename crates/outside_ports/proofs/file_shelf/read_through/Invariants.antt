@@ -1,8 +1,12 @@
-use Rattle.std.proofs.Common.{◌-◌, ◌≤◌, length}
+use Rattle.std.proofs.Common.{◌≡◌, ◌-◌, ◌≤◌, ◌++◌, ℕ, List, length}
+use Rattle.std.specs.Io.KnownBytes.{Consumes}
 use Rattle.outside_ports.proofs.file_shelf.read_through.Given as goal
 
+-- there are at most so many bytes, and what was appended was read
 abbrev pub invariant-loop-block : goal.invariant-loop-block
-invariant-loop-block g l = length l.into.items ≤ l.most
+invariant-loop-block g l =
+    (length l.into.items ≤ l.most)
+    × ((read : List ℕ) × (l.into.items ≡ l.initial.into.items ++ read) × Consumes (g.F.Read.remaining l.initial.file) (g.F.Read.remaining l.file) read)
 
 abbrev pub decreases-loop-block : goal.decreases-loop-block
 decreases-loop-block g l = l.most - length l.into.items
