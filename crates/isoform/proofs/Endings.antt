@@ -3,29 +3,20 @@ use Rattle.std.proofs.Common.{◌≡◌, ℕ, ◌≤◌, List, [], ◌∷◌, �
 use Rattle.std.specs.Prelude.{Option, Result, Ok, Err, IfOk}
 use Rattle.std.proofs.lemmas.List.{take_all, append-nil}
 use Rattle.outside_ports.specs.Files.{Files}
-use Rattle.isoform.specs.Answering.{◌>>=◌, Refuses}
+use Rattle.isoform.specs.Answering.{◌>>=◌, or_refusal, Refuses}
 use Rattle.isoform.specs.Words.{Request, request_of, table_of}
 use Rattle.isoform.specs.Answer.{answer, answer_of_request, answer_of_bytes, bytes_within}
 use Rattle.isoform.specs.Printed.{Writes, WritesFor}
 use Rattle.isoform.specs.Run.{Ending, OfFiles, Outside, Shows, IsTold, IsPut, file_names, table_of_request}
-use Rattle.isoform.specs.declared.refusal.InputFile.TheVariants as file
+use Rattle.isoform.specs.declared.input_fault.InputFault.{InputFault}
+use Rattle.isoform.specs.declared.input_fault.InputFile.TheVariants as file
 use Rattle.isoform.specs.declared.refusal.Refusal.{Refusal}
-use Rattle.isoform.specs.declared.refusal.Refusal.TheVariants.{Words, Value, Table, Alphabet, Formula, FileLimit, CandidateLimit, Wide, ReadFault, WriteFault, Memory}
-use Rattle.isoform.proofs.Contents.{IsOfContent, RefusesContent}
+use Rattle.isoform.specs.declared.refusal.Refusal.TheVariants.{Input, ReadFault, WriteFault, Memory}
 
--- content was refused: all names were asked, and nothing was written
-pub content_shows : (answer : Result (List ℕ) Refusal) (names : List (List ℕ)) (before after : Outside) (refusal : Refusal) → IsOfContent refusal → answer ≡ Err refusal → after.asked ≡ before.asked ++ names → after.shelf_faults ≡ before.shelf_faults → after.received ≡ before.received → after.out_faults ≡ before.out_faults → Shows answer names before after (Err refusal)
-content_shows answer names before after Words content is asks reads receives writes = record { cause = is; reads = reads; writes = writes; asks = asks; receives = receives }
-content_shows answer names before after (Value option) content is asks reads receives writes = record { cause = is; reads = reads; writes = writes; asks = asks; receives = receives }
-content_shows answer names before after Table content is asks reads receives writes = record { cause = is; reads = reads; writes = writes; asks = asks; receives = receives }
-content_shows answer names before after Alphabet content is asks reads receives writes = record { cause = is; reads = reads; writes = writes; asks = asks; receives = receives }
-content_shows answer names before after (Formula fault) content is asks reads receives writes = record { cause = is; reads = reads; writes = writes; asks = asks; receives = receives }
-content_shows answer names before after (FileLimit which) content is asks reads receives writes = record { cause = is; reads = reads; writes = writes; asks = asks; receives = receives }
-content_shows answer names before after (CandidateLimit peak) content is asks reads receives writes = record { cause = is; reads = reads; writes = writes; asks = asks; receives = receives }
-content_shows answer names before after (Wide formula) content is asks reads receives writes = record { cause = is; reads = reads; writes = writes; asks = asks; receives = receives }
-content_shows answer names before after (ReadFault which) content is asks reads receives writes = absurd content
-content_shows answer names before after WriteFault content is asks reads receives writes = absurd content
-content_shows answer names before after Memory content is asks reads receives writes = absurd content
+-- what was given is refused: all names were asked, and nothing was written
+pub input_shows : (answer : Result (List ℕ) Refusal) (names : List (List ℕ)) (before after : Outside) (fault : InputFault) → answer ≡ Err (Input fault) → after.asked ≡ before.asked ++ names → after.shelf_faults ≡ before.shelf_faults → after.received ≡ before.received → after.out_faults ≡ before.out_faults → Shows answer names before after (Err (Input fault))
+input_shows answer names before after fault is asks reads receives writes =
+    record { cause = is; reads = reads; writes = writes; asks = asks; receives = receives }
 
 -- memory ran out before anything was written
 pub memory_shows : (answer : Result (List ℕ) Refusal) (names : List (List ℕ)) (before after : Outside) (asked : ℕ) → after.asked ≡ before.asked ++ take asked names → before.shelf_faults ≤ after.shelf_faults → after.received ≡ before.received → after.out_faults ≡ before.out_faults → Shows answer names before after (Err Memory)
@@ -38,52 +29,36 @@ late_memory_shows answer names before after asks reads receives writes =
     memory_shows answer names before after (length names) (asks ∙ ap (λ n. before.asked ++ n) (sym (take_all (length names) names (omega arith)))) reads receives writes
 
 -- the refusal of a part of the work, which may be want of memory, is that of the whole
-pub part_shows : (answer part : Result (List ℕ) Refusal) (names : List (List ℕ)) (before after : Outside) (refusal : Refusal) → RefusesContent part → Refuses refusal part → (part ≡ Err refusal → answer ≡ Err refusal) → after.asked ≡ before.asked ++ names → after.shelf_faults ≡ before.shelf_faults → after.received ≡ before.received → after.out_faults ≡ before.out_faults → Shows answer names before after (Err refusal)
-part_shows answer part names before after Memory content refused whole asks reads receives writes =
+pub part_shows : (answer : Result (List ℕ) Refusal) (part : Result (List ℕ) InputFault) (names : List (List ℕ)) (before after : Outside) (refusal : Refusal) → Refuses refusal part → ((fault : InputFault) → part ≡ Err fault → answer ≡ Err (Input fault)) → after.asked ≡ before.asked ++ names → after.shelf_faults ≡ before.shelf_faults → after.received ≡ before.received → after.out_faults ≡ before.out_faults → Shows answer names before after (Err refusal)
+part_shows answer part names before after Memory refused whole asks reads receives writes =
     late_memory_shows answer names before after asks (omega (arith, reads)) receives writes
-part_shows answer part names before after Words content refused whole asks reads receives writes =
-    content_shows answer names before after Words tt (whole refused) asks reads receives writes
-part_shows answer part names before after (Value option) content refused whole asks reads receives writes =
-    content_shows answer names before after (Value option) tt (whole refused) asks reads receives writes
-part_shows answer part names before after Table content refused whole asks reads receives writes =
-    content_shows answer names before after Table tt (whole refused) asks reads receives writes
-part_shows answer part names before after Alphabet content refused whole asks reads receives writes =
-    content_shows answer names before after Alphabet tt (whole refused) asks reads receives writes
-part_shows answer part names before after (Formula fault) content refused whole asks reads receives writes =
-    content_shows answer names before after (Formula fault) tt (whole refused) asks reads receives writes
-part_shows answer part names before after (FileLimit which) content refused whole asks reads receives writes =
-    content_shows answer names before after (FileLimit which) tt (whole refused) asks reads receives writes
-part_shows answer part names before after (CandidateLimit peak) content refused whole asks reads receives writes =
-    content_shows answer names before after (CandidateLimit peak) tt (whole refused) asks reads receives writes
-part_shows answer part names before after (Wide formula) content refused whole asks reads receives writes =
-    content_shows answer names before after (Wide formula) tt (whole refused) asks reads receives writes
-part_shows answer part names before after (ReadFault which) content refused whole asks reads receives writes =
-    absurd (subst RefusesContent refused content)
-part_shows answer part names before after WriteFault content refused whole asks reads receives writes =
-    absurd (subst RefusesContent refused content)
+part_shows answer part names before after (Input fault) refused whole asks reads receives writes =
+    input_shows answer names before after fault (whole fault refused) asks reads receives writes
+part_shows answer part names before after (ReadFault which) refused whole asks reads receives writes = absurd refused
+part_shows answer part names before after WriteFault refused whole asks reads receives writes = absurd refused
 
 -- the answer where the file was fetched
-pub answer-fetched : (request : Request) (files : Files) (bytes : List ℕ) (part : Result (List ℕ) Refusal) → bytes_within file.Table 16777216 (files (table_of request)) ≡ Ok bytes → answer_of_bytes request bytes ≡ part → answer_of_request request files ≡ part
-answer-fetched request files bytes part fetched is = ap (λ r. r >>= answer_of_bytes request) fetched ∙ is
+pub answer-fetched : (request : Request) (files : Files) (bytes : List ℕ) (part : Result (List ℕ) InputFault) → bytes_within file.Table 16777216 (files (table_of request)) ≡ Ok bytes → answer_of_bytes request bytes ≡ part → answer_of_request request files ≡ or_refusal part
+answer-fetched request files bytes part fetched is =
+    ap (λ (r : Result (List ℕ) Refusal). r >>= λ b. or_refusal (answer_of_bytes request b)) fetched ∙ ap or_refusal is
 
 -- what a request shows, its words show
 pub words_show : (words : List (List ℕ)) (files : Files) (request : Request) (before after : Outside) (ending : Ending) → Ok request ≡ request_of words → Shows (answer_of_request request files) (table_of request ∷ []) before after ending → Shows (answer words files) (file_names words) before after ending
 unfolding answer
 words_show words files request before after ending is shows =
-    subst (λ (r : Result Request Refusal). Shows (r >>= λ q. answer_of_request q files) (table_of_request r) before after ending) is shows
+    subst (λ (r : Result Request InputFault). Shows (or_refusal r >>= λ q. answer_of_request q files) (table_of_request r) before after ending) is shows
 
 -- what was written for a request was written for the words that ask for it
-pub writes_for : (ending : Ending) (held : Option Files) (asked : Result Request Refusal) (request : Request) (before after : Option (List ℕ)) → Ok request ≡ asked → IfOk ending (λ _. OfFiles held (λ files. Writes request files before after)) → IfOk ending (λ _. OfFiles held (λ files. WritesFor asked files before after))
+pub writes_for : (ending : Ending) (held : Option Files) (asked : Result Request InputFault) (request : Request) (before after : Option (List ℕ)) → Ok request ≡ asked → IfOk ending (λ _. OfFiles held (λ files. Writes request files before after)) → IfOk ending (λ _. OfFiles held (λ files. WritesFor asked files before after))
 writes_for ending held asked request before after is given =
-    subst (λ (r : Result Request Refusal). IfOk ending (λ _. OfFiles held (λ files. WritesFor r files before after))) is given
+    subst (λ (r : Result Request InputFault). IfOk ending (λ _. OfFiles held (λ files. WritesFor r files before after))) is given
 
 -- words that are refused show that
-pub refused_words_show : (words : List (List ℕ)) (files : Files) (before : Outside) (refusal : Refusal) → RefusesContent (request_of words) → Err refusal ≡ request_of words → Shows (answer words files) (file_names words) before before (Err refusal)
+pub refused_words_show : (words : List (List ℕ)) (files : Files) (before : Outside) (fault : InputFault) → Err fault ≡ request_of words → Shows (answer words files) (file_names words) before before (Err (Input fault))
 unfolding answer
-refused_words_show words files before refusal content is =
-    let of_content : IsOfContent refusal = subst RefusesContent (sym is) content in
-    subst (λ (r : Result Request Refusal). Shows (r >>= λ q. answer_of_request q files) (table_of_request r) before before (Err refusal)) is
-    (content_shows (Err refusal) [] before before refusal of_content refl (sym (append-nil before.asked)) refl refl refl)
+refused_words_show words files before fault is =
+    subst (λ (r : Result Request InputFault). Shows (or_refusal r >>= λ q. answer_of_request q files) (table_of_request r) before before (Err (Input fault))) is
+    (input_shows (Err (Input fault)) [] before before fault refl (sym (append-nil before.asked)) refl refl refl)
 
 -- a note was put, under other names of the same values
 pub put_as : {M : Type 0} (written : M → Option (List ℕ)) (faults : M → ℕ) (before middle after : M) (told note : List ℕ) → after ≡ middle → told ≡ note → IsPut told (written before) (faults before) (written middle) (faults middle) → IsPut note (written before) (faults before) (written after) (faults after)
@@ -96,14 +71,7 @@ memory_behind : (answer : Result (List ℕ) Refusal) (names : List (List ℕ)) (
 memory_behind answer names before after Memory other shows = shows
 memory_behind answer names before after WriteFault other shows = absurd (other refl)
 memory_behind answer names before after (ReadFault which) other shows = late_memory_shows answer names before after shows.asks shows.reads shows.receives shows.writes
-memory_behind answer names before after Words other shows = late_memory_shows answer names before after shows.asks (omega (arith, shows.reads)) shows.receives shows.writes
-memory_behind answer names before after (Value option) other shows = late_memory_shows answer names before after shows.asks (omega (arith, shows.reads)) shows.receives shows.writes
-memory_behind answer names before after Table other shows = late_memory_shows answer names before after shows.asks (omega (arith, shows.reads)) shows.receives shows.writes
-memory_behind answer names before after Alphabet other shows = late_memory_shows answer names before after shows.asks (omega (arith, shows.reads)) shows.receives shows.writes
-memory_behind answer names before after (Formula fault) other shows = late_memory_shows answer names before after shows.asks (omega (arith, shows.reads)) shows.receives shows.writes
-memory_behind answer names before after (FileLimit which) other shows = late_memory_shows answer names before after shows.asks (omega (arith, shows.reads)) shows.receives shows.writes
-memory_behind answer names before after (CandidateLimit peak) other shows = late_memory_shows answer names before after shows.asks (omega (arith, shows.reads)) shows.receives shows.writes
-memory_behind answer names before after (Wide formula) other shows = late_memory_shows answer names before after shows.asks (omega (arith, shows.reads)) shows.receives shows.writes
+memory_behind answer names before after (Input fault) other shows = late_memory_shows answer names before after shows.asks (omega (arith, shows.reads)) shows.receives shows.writes
 
 -- what was told is shown
 pub told_shows : (answer : Result (List ℕ) Refusal) (names : List (List ℕ)) (before after : Outside) (came told : Refusal) → IsTold came told → Shows answer names before after (Err came) → Shows answer names before after (Err told)

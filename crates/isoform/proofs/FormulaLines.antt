@@ -8,7 +8,7 @@ use Rattle.std.proofs.lemmas.Grind.{flat_map-append}
 use Rattle.std.proofs.lemmas.Bool.Decides.{nat_tests}
 use Rattle.isoform.specs.Report.{line}
 use Rattle.isoform.specs.Candidates.{with_lines}
-use Rattle.isoform.specs.declared.refusal.Refusal.TheVariants.{CandidateLimit}
+use Rattle.isoform.specs.declared.input_fault.InputFault.TheVariants.{CandidateLimit}
 
 -- one more count list that is no formula
 pub none_more : {X Y : Type 0} (formula : X → Option Y) (done : List X) (x : X) → formula x ≡ None → filter_map formula (done ++ x ∷ []) ≡ filter_map formula done

@@ -1,6 +1,5 @@
 pub mod ToldFiles
 pub mod PutParts
-pub mod Contents
 pub mod Endings
 pub mod FirstPlace
 pub mod CutText

@@ -11,8 +11,8 @@ use Rattle.isoform.specs.Answer.{decompose_answer}
 use Rattle.isoform.specs.Candidates.{candidates, limited_candidates, with_lines}
 use Rattle.isoform.specs.Report.{decompose_report, report_head, formula_line}
 use Rattle.isoform.specs.declared.alphabet.Entry.{Entry}
-use Rattle.isoform.specs.declared.refusal.Refusal.{Refusal}
-use Rattle.isoform.specs.declared.refusal.Refusal.TheVariants.{CandidateLimit}
+use Rattle.isoform.specs.declared.input_fault.InputFault.{InputFault}
+use Rattle.isoform.specs.declared.input_fault.InputFault.TheVariants.{CandidateLimit}
 
 head_and_lines : (table : TableEntries) (asked : ℕ) (formulas : List (List (Item × ℕ))) → (limited_candidates formulas >>= λ fs. Ok (decompose_report table asked fs)) ≡ with_lines (report_head asked) (formula_line table asked) formulas
 unfolding decompose_report
@@ -20,12 +20,12 @@ head_and_lines table asked formulas =
     let report : List ℕ = report_head asked ++ flat_map (formula_line table asked) formulas in
     by_test (nat_lt 1048576 (length formulas)) report
   where
-    by_test : (many : Bool) (report : List ℕ) → (◌>>=◌ {A = List (List (Item × ℕ))} {B = List ℕ} (cond many (Err (CandidateLimit 1)) (Ok formulas)) (λ fs. Ok (report_head asked ++ flat_map (formula_line table asked) fs))) ≡ cond many (Err (CandidateLimit 1)) (Ok (report_head asked ++ flat_map (formula_line table asked) formulas))
+    by_test : (many : Bool) (report : List ℕ) → (◌>>=◌ {A = List (List (Item × ℕ))} {B = List ℕ} {E = InputFault} (cond many (Err (CandidateLimit 1)) (Ok formulas)) (λ fs. Ok (report_head asked ++ flat_map (formula_line table asked) fs))) ≡ cond many (Err (CandidateLimit 1)) (Ok (report_head asked ++ flat_map (formula_line table asked) formulas))
     by_test true report = refl
     by_test false report = refl
 
 -- the answer over a table whose alphabet was read
 pub answer-alphabet : (request : DecomposeRequest) (table : TableEntries) (alphabet : List Entry) → alphabet_of table request.alphabet ≡ Ok alphabet → decompose_answer request table ≡ with_lines (report_head request.mass) (formula_line table request.mass) (candidates alphabet request.mass request.da)
 answer-alphabet request table alphabet is =
-    ap (λ (read : Result (List Entry) Refusal). read >>= λ a. limited_candidates (candidates a request.mass request.da) >>= λ fs. Ok (decompose_report table request.mass fs)) is
+    ap (λ (read : Result (List Entry) InputFault). read >>= λ a. limited_candidates (candidates a request.mass request.da) >>= λ fs. Ok (decompose_report table request.mass fs)) is
     ∙ head_and_lines table request.mass (candidates alphabet request.mass request.da)

@@ -7,8 +7,8 @@ use Rattle.std.specs.Cmp.Lexicographic.{slice_cmp}
 use Rattle.element_table.specs.SymbolText.{is_capital, is_symbol}
 use Rattle.element_table.specs.Elements.{TableEntries, element_of, reference_isotope}
 use Rattle.isoform.specs.declared.alphabet.Entry.{Entry}
-use Rattle.isoform.specs.declared.refusal.Refusal.{Refusal}
-use Rattle.isoform.specs.declared.refusal.Refusal.TheVariants.{Alphabet}
+use Rattle.isoform.specs.declared.input_fault.InputFault.{InputFault}
+use Rattle.isoform.specs.declared.input_fault.InputFault.TheVariants.{Alphabet}
 
 -- a first byte and the text after it, which is cut already: the byte begins the first piece, unless
 -- that begins with a capital letter
@@ -57,7 +57,7 @@ is_alphabet table symbols =
     && list_all (λ symbol. is_some (entry_of table symbol)) symbols
 
 -- the entries that a text names
-unfoldable pub alphabet_of : TableEntries → List ℕ → Result (List Entry) Refusal
+unfoldable pub alphabet_of : TableEntries → List ℕ → Result (List Entry) InputFault
 alphabet_of table text =
     let symbols = cut_at_capitals text in
     if is_alphabet table symbols then Ok (by_falling_mass (filter_map (entry_of table) symbols)) else Err Alphabet

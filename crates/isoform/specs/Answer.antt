@@ -8,66 +8,68 @@ use Rattle.formula_text.specs.declared.item.Item.{Item}
 use Rattle.formula_text.specs.declared.fault.FormulaFault.{FormulaFault}
 use Rattle.formula_text.specs.FormulaTexts.{read_of}
 use Rattle.cover_certificate.specs.Covers.{CoverEntries, cover_unless_wide}
-use Rattle.isoform.specs.Answering.{◌>>=◌}
+use Rattle.isoform.specs.Answering.{◌>>=◌, or_refusal}
 use Rattle.isoform.specs.Words as words
 use Rattle.isoform.specs.Words.{DecomposeRequest, EnvelopeRequest, Request, Decompose, Envelope, request_of}
 use Rattle.isoform.specs.Alphabet.{alphabet_of}
 use Rattle.isoform.specs.Candidates.{candidates, limited_candidates}
 use Rattle.isoform.specs.Report.{decompose_report, envelope_report}
-use Rattle.isoform.specs.declared.refusal.InputFile.{InputFile}
-use Rattle.isoform.specs.declared.refusal.InputFile.TheVariants as file
+use Rattle.isoform.specs.declared.input_fault.InputFile.{InputFile}
+use Rattle.isoform.specs.declared.input_fault.InputFile.TheVariants as file
+use Rattle.isoform.specs.declared.input_fault.InputFault.{InputFault}
+use Rattle.isoform.specs.declared.input_fault.InputFault.TheVariants.{FileLimit, Table, Formula, Wide}
 use Rattle.isoform.specs.declared.refusal.Refusal.{Refusal}
-use Rattle.isoform.specs.declared.refusal.Refusal.TheVariants.{ReadFault, FileLimit, Table, Formula, Wide}
+use Rattle.isoform.specs.declared.refusal.Refusal.TheVariants.{Input, ReadFault}
 
 -- the bytes of a file of at most so many bytes
 abbrev pub bytes_within : InputFile → ℕ → Option (List ℕ) → Result (List ℕ) Refusal
 bytes_within which limit None = Err (ReadFault which)
-bytes_within which limit (Some bytes) = if nat_lt limit (length bytes) then Err (FileLimit which) else Ok bytes
+bytes_within which limit (Some bytes) = if nat_lt limit (length bytes) then Err (Input (FileLimit which)) else Ok bytes
 
 -- the table, or that it has a fault
-abbrev pub or_table_refusal : Result TableEntries TableFault → Result TableEntries Refusal
-or_table_refusal (Ok table) = Ok table
-or_table_refusal (Err fault) = Err Table
+abbrev pub or_table_fault : Result TableEntries TableFault → Result TableEntries InputFault
+or_table_fault (Ok table) = Ok table
+or_table_fault (Err fault) = Err Table
 
 -- the report of a decomposition over a table
-abbrev pub decompose_answer : DecomposeRequest → TableEntries → Result (List ℕ) Refusal
+abbrev pub decompose_answer : DecomposeRequest → TableEntries → Result (List ℕ) InputFault
 decompose_answer request table =
     alphabet_of table request.alphabet
     >>= λ alphabet. limited_candidates (candidates alphabet request.mass request.da)
     >>= λ formulas. Ok (decompose_report table request.mass formulas)
 
 -- the formula of a text, or the first fault of the text
-abbrev pub or_formula_refusal : Result (List (Item × ℕ)) FormulaFault → Result (List (Item × ℕ)) Refusal
-or_formula_refusal (Ok formula) = Ok formula
-or_formula_refusal (Err fault) = Err (Formula fault)
+abbrev pub or_formula_fault : Result (List (Item × ℕ)) FormulaFault → Result (List (Item × ℕ)) InputFault
+or_formula_fault (Ok formula) = Ok formula
+or_formula_fault (Err fault) = Err (Formula fault)
 
 -- the cover of a formula, or that the formula is wide
-abbrev pub or_wide : List (Item × ℕ) → Option CoverEntries → Result CoverEntries Refusal
+abbrev pub or_wide : List (Item × ℕ) → Option CoverEntries → Result CoverEntries InputFault
 or_wide formula (Some cover) = Ok cover
 or_wide formula None = Err (Wide formula)
 
 -- the report of an envelope over a table
-abbrev pub envelope_answer : EnvelopeRequest → TableEntries → Result (List ℕ) Refusal
+abbrev pub envelope_answer : EnvelopeRequest → TableEntries → Result (List ℕ) InputFault
 envelope_answer request table =
-    or_formula_refusal (read_of table request.formula)
+    or_formula_fault (read_of table request.formula)
     >>= λ formula. or_wide formula (cover_unless_wide table formula request.coverage)
     >>= λ cover. Ok (envelope_report cover)
 
 -- the report of a request over a table
-abbrev pub answer_of_table : Request → TableEntries → Result (List ℕ) Refusal
+abbrev pub answer_of_table : Request → TableEntries → Result (List ℕ) InputFault
 answer_of_table (Decompose request) table = decompose_answer request table
 answer_of_table (Envelope request) table = envelope_answer request table
 
 -- the report of a request over the bytes of its table file
-abbrev pub answer_of_bytes : Request → List ℕ → Result (List ℕ) Refusal
-answer_of_bytes request bytes = or_table_refusal (table_of bytes) >>= answer_of_table request
+abbrev pub answer_of_bytes : Request → List ℕ → Result (List ℕ) InputFault
+answer_of_bytes request bytes = or_table_fault (table_of bytes) >>= answer_of_table request
 
 -- the report of a request over files: the table file and the table may be refused, and then for a
 -- decomposition the alphabet and the number of candidates, for an envelope the formula and the number of its
 -- isotopologues, in this order
 abbrev pub answer_of_request : Request → Files → Result (List ℕ) Refusal
-answer_of_request request files = bytes_within file.Table 16777216 (files (words.table_of request)) >>= answer_of_bytes request
+answer_of_request request files = bytes_within file.Table 16777216 (files (words.table_of request)) >>= λ bytes. or_refusal (answer_of_bytes request bytes)
 
 -- the program's answer to its words over files: the bytes of the report, or the first refusal
 unfoldable pub answer : List (List ℕ) → Files → Result (List ℕ) Refusal
-answer words files = request_of words >>= λ request. answer_of_request request files
+answer words files = or_refusal (request_of words) >>= λ request. answer_of_request request files

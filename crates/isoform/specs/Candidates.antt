@@ -7,8 +7,8 @@ use Rattle.decompose.specs.Enumeration.{vectors}
 use Rattle.formula_text.specs.declared.item.Item.{Item}
 use Rattle.formula_text.specs.Formulas.{formula_of}
 use Rattle.isoform.specs.declared.alphabet.Entry.{Entry}
-use Rattle.isoform.specs.declared.refusal.Refusal.{Refusal}
-use Rattle.isoform.specs.declared.refusal.Refusal.TheVariants.{CandidateLimit}
+use Rattle.isoform.specs.declared.input_fault.InputFault.{InputFault}
+use Rattle.isoform.specs.declared.input_fault.InputFault.TheVariants.{CandidateLimit}
 
 -- the masses within a tolerance of a mass, from 10^-12 Da on
 abbrev pub window_of : ℕ → ℕ → Window
@@ -28,9 +28,9 @@ candidates alphabet mass da =
     filter_map (formula_of_counts alphabet) (vectors (map (λ e. e.mass) alphabet) (all_limits alphabet) (window_of mass da))
 
 -- at most 1,048,576 of them
-abbrev pub limited_candidates : List (List (Item × ℕ)) → Result (List (List (Item × ℕ))) Refusal
+abbrev pub limited_candidates : List (List (Item × ℕ)) → Result (List (List (Item × ℕ))) InputFault
 limited_candidates formulas = if nat_lt 1048576 (length formulas) then Err (CandidateLimit 1) else Ok formulas
 
 -- a text with the lines of at most 1,048,576 formulas behind it
-abbrev pub with_lines : {Y : Type 0} → List ℕ → (Y → List ℕ) → List Y → Result (List ℕ) Refusal
+abbrev pub with_lines : {Y : Type 0} → List ℕ → (Y → List ℕ) → List Y → Result (List ℕ) InputFault
 with_lines text line_of formulas = if nat_lt 1048576 (length formulas) then Err (CandidateLimit 1) else Ok (text ++ flat_map line_of formulas)

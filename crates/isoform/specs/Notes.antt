@@ -4,20 +4,25 @@ use Rattle.std.specs.Fmt.{decimal}
 use Rattle.formula_text.specs.declared.fault.FormulaFault.{FormulaFault}
 use Rattle.formula_text.specs.declared.fault.FormulaFault.TheVariants as fault
 use Rattle.formula_text.specs.PrintedText.{printed}
-use Rattle.isoform.specs.declared.refusal.OptionName.{OptionName}
-use Rattle.isoform.specs.declared.refusal.OptionName.TheVariants.{Mass, Da, Coverage}
+use Rattle.isoform.specs.declared.input_fault.OptionName.{OptionName}
+use Rattle.isoform.specs.declared.input_fault.OptionName.TheVariants.{Mass, Da, Coverage}
+use Rattle.isoform.specs.declared.input_fault.InputFault.{InputFault}
+use Rattle.isoform.specs.declared.input_fault.InputFault.TheVariants.{Words, Value, FileLimit, Table, Alphabet, Formula, CandidateLimit, Wide}
 use Rattle.isoform.specs.declared.refusal.Refusal.{Refusal}
-use Rattle.isoform.specs.declared.refusal.Refusal.TheVariants.{Words, Value, Table, Alphabet, Formula, FileLimit, CandidateLimit, Wide, ReadFault, WriteFault, Memory}
+use Rattle.isoform.specs.declared.refusal.Refusal.TheVariants.{Input, ReadFault, WriteFault, Memory}
+
+abbrev pub status_of_fault : InputFault → ℕ
+status_of_fault Words = 2
+status_of_fault (Value option) = 2
+status_of_fault Table = 3
+status_of_fault Alphabet = 5
+status_of_fault (Formula fault) = 5
+status_of_fault (FileLimit which) = 6
+status_of_fault (CandidateLimit peak) = 6
+status_of_fault (Wide formula) = 6
 
 abbrev pub status_of : Refusal → ℕ
-status_of Words = 2
-status_of (Value option) = 2
-status_of Table = 3
-status_of Alphabet = 5
-status_of (Formula fault) = 5
-status_of (FileLimit which) = 6
-status_of (CandidateLimit peak) = 6
-status_of (Wide formula) = 6
+status_of (Input fault) = status_of_fault fault
 status_of (ReadFault which) = 7
 status_of WriteFault = 8
 status_of Memory = 9
@@ -36,16 +41,20 @@ formula_words fault.TooManyElements = codes "too many elements"
 formula_words fault.Empty = codes "empty"
 formula_words (fault.Memory e) = codes "memory"
 
--- what a note says, where the table file has this name
+-- what a note says of a fault, where the table file has this name
+abbrev pub fault_message : List ℕ → InputFault → List ℕ
+fault_message table Words = codes "words"
+fault_message table (Value option) = codes "value: " ++ option_text option
+fault_message table (FileLimit which) = codes "limit: file " ++ table
+fault_message table Table = codes "table"
+fault_message table Alphabet = codes "alphabet"
+fault_message table (Formula fault) = codes "formula: " ++ formula_words fault
+fault_message table (CandidateLimit peak) = codes "limit: candidates of peak " ++ decimal peak
+fault_message table (Wide formula) = codes "limit: wide of " ++ printed formula
+
+-- what a note says
 abbrev pub message_of : List ℕ → Refusal → List ℕ
-message_of table Words = codes "words"
-message_of table (Value option) = codes "value: " ++ option_text option
-message_of table Table = codes "table"
-message_of table Alphabet = codes "alphabet"
-message_of table (Formula fault) = codes "formula: " ++ formula_words fault
-message_of table (FileLimit which) = codes "limit: file " ++ table
-message_of table (CandidateLimit peak) = codes "limit: candidates of peak " ++ decimal peak
-message_of table (Wide formula) = codes "limit: wide of " ++ printed formula
+message_of table (Input fault) = fault_message table fault
 message_of table (ReadFault which) = codes "read fault: " ++ table
 message_of table WriteFault = codes "write fault"
 message_of table Memory = codes "memory"

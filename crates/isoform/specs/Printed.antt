@@ -10,7 +10,7 @@ use Rattle.cover_certificate.specs.Covers.{cover_of, EnclosesEach, CoverReaches}
 use Rattle.isoform.specs.Report.{envelope_report}
 use Rattle.isoform.specs.Words as words
 use Rattle.isoform.specs.Words.{EnvelopeRequest, Request, Decompose, Envelope}
-use Rattle.isoform.specs.declared.refusal.Refusal.{Refusal}
+use Rattle.isoform.specs.declared.input_fault.InputFault.{InputFault}
 
 -- A report of an envelope over the bytes of a table file: it is that of the cover of the formula, the printed
 -- bounds of each isotopologue enclose its exact probability, and the printed set reaches the wanted coverage in exact
@@ -38,6 +38,6 @@ pub record Writes (request : Request) (files : Files) (before after : Option (Li
   pub envelope : IfEnvelope request bytes report
 
 -- the same for words that ask for something
-abbrev pub WritesFor : Result Request Refusal → Files → Option (List ℕ) → Option (List ℕ) → Type 0
+abbrev pub WritesFor : Result Request InputFault → Files → Option (List ℕ) → Option (List ℕ) → Type 0
 WritesFor (Ok request) files before after = Writes request files before after
-WritesFor (Err refusal) files before after = ⊥
+WritesFor (Err fault) files before after = ⊥

@@ -6,9 +6,10 @@ use Rattle.outside_ports.specs.Putting.{append_written}
 use Rattle.isoform.specs.Answer.{answer}
 use Rattle.isoform.specs.Notes.{status_of, note_of}
 use Rattle.isoform.specs.Words.{Request, request_of, table_of}
+use Rattle.isoform.specs.declared.input_fault.InputFault.{InputFault}
 use Rattle.isoform.specs.declared.refusal.Refusal.{Refusal}
 use Rattle.isoform.specs.declared.refusal.Refused.{Refused}
-use Rattle.isoform.specs.declared.refusal.Refusal.TheVariants.{ReadFault, WriteFault, Memory}
+use Rattle.isoform.specs.declared.refusal.Refusal.TheVariants.{Input, ReadFault, WriteFault, Memory}
 
 -- how a run ends: its report is written, or there is a refusal
 abbrev pub Ending : Type 0
@@ -43,7 +44,7 @@ HasCause answer before after (Ok _) = IsOk answer
 HasCause answer before after (Err (ReadFault which)) = Rose before.shelf_faults after.shelf_faults
 HasCause answer before after (Err WriteFault) = IsOk answer × Rose before.out_faults after.out_faults
 HasCause answer before after (Err Memory) = Unit {0}
-HasCause answer before after (Err refusal) = answer ≡ Err refusal
+HasCause answer before after (Err (Input fault)) = answer ≡ Err (Input fault)
 
 -- A count of the shelf's faults that rose is a read fault, or memory ran out behind it.
 abbrev pub CountsReads : Outside → Outside → Ending → Type 0
@@ -76,9 +77,9 @@ pub record Shows (answer : Result (List ℕ) Refusal) (names : List (List ℕ)) 
   pub receives : Receives answer before after ending
 
 -- the name of a request's table file
-abbrev pub table_of_request : Result Request Refusal → List (List ℕ)
+abbrev pub table_of_request : Result Request InputFault → List (List ℕ)
 table_of_request (Ok request) = table_of request ∷ []
-table_of_request (Err refusal) = []
+table_of_request (Err fault) = []
 
 -- the names of the files that words ask for
 abbrev pub file_names : List (List ℕ) → List (List ℕ)
@@ -132,7 +133,7 @@ Fetched view (Ok x) expected = expected ≡ Ok (view x)
 Fetched view (Err (ReadFault which)) expected = Unit {0}
 Fetched view (Err Memory) expected = Unit {0}
 Fetched view (Err WriteFault) expected = ⊥
-Fetched view (Err refusal) expected = expected ≡ Err refusal
+Fetched view (Err (Input fault)) expected = expected ≡ Err (Input fault)
 
 -- the shelf's count of faults rose where the file could not be read, and else is as it was
 abbrev pub CountsFetchOf : {X : Type 0} → ℕ → ℕ → Result X Refusal → Type 0

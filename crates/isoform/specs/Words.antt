@@ -4,10 +4,10 @@ use Rattle.std.specs.Str.{bytes_eq}
 use Rattle.fixed_decimal.specs.Decimal.{read_decimal}
 use Rattle.fixed_decimal.specs.declared.DecimalFault.{DecimalFault}
 use Rattle.isoform.specs.Answering.{◌>>=◌}
-use Rattle.isoform.specs.declared.refusal.OptionName.{OptionName}
-use Rattle.isoform.specs.declared.refusal.OptionName.TheVariants.{Mass, Da, Coverage}
-use Rattle.isoform.specs.declared.refusal.Refusal.{Refusal}
-use Rattle.isoform.specs.declared.refusal.Refusal.TheVariants.{Words, Value}
+use Rattle.isoform.specs.declared.input_fault.OptionName.{OptionName}
+use Rattle.isoform.specs.declared.input_fault.OptionName.TheVariants.{Mass, Da, Coverage}
+use Rattle.isoform.specs.declared.input_fault.InputFault.{InputFault}
+use Rattle.isoform.specs.declared.input_fault.InputFault.TheVariants.{Words, Value}
 
 -- the formulas of one neutral mass: the table file's name, the mass and the tolerance in 10^-12 Da,
 -- and the text of the alphabet
@@ -43,19 +43,19 @@ abbrev pub gives_option : List ℕ → List ℕ → List ℕ → Bool
 gives_option name option value = bytes_eq option name && is_value value
 
 -- the number of a value, where it is at least this one
-abbrev pub in_range : OptionName → ℕ → Result ℕ DecimalFault → Result ℕ Refusal
+abbrev pub in_range : OptionName → ℕ → Result ℕ DecimalFault → Result ℕ InputFault
 in_range option low (Ok number) = if nat_le low number then Ok number else Err (Value option)
 in_range option low (Err fault) = Err (Value option)
 
 -- the masses that the values of `--mass` and `--da` spell: above 0 and at most 20,000 Da, and at most 10 Da
-unfoldable pub decompose_request : List ℕ → List ℕ → List ℕ → List ℕ → Result DecomposeRequest Refusal
+unfoldable pub decompose_request : List ℕ → List ℕ → List ℕ → List ℕ → Result DecomposeRequest InputFault
 decompose_request table mass da alphabet =
     in_range Mass 1 (read_decimal 12 20000000000000000 mass)
     >>= λ m. in_range Da 0 (read_decimal 12 10000000000000 da)
     >>= λ d. Ok (record { table = table; mass = m; da = d; alphabet = alphabet })
 
 -- the coverage that the value of `--coverage` spells: from 10^-18 to 0.999999
-unfoldable pub envelope_request : List ℕ → List ℕ → List ℕ → Result EnvelopeRequest Refusal
+unfoldable pub envelope_request : List ℕ → List ℕ → List ℕ → Result EnvelopeRequest InputFault
 envelope_request table formula coverage =
     in_range Coverage 1 (read_decimal 18 999999000000000000 coverage)
     >>= λ c. Ok (record { table = table; formula = formula; coverage = c })
@@ -82,7 +82,7 @@ is_envelope words =
     && gives_option (codes "--coverage") (word words 5) (word words 6)
 
 -- what the words ask for
-unfoldable pub request_of : List (List ℕ) → Result Request Refusal
+unfoldable pub request_of : List (List ℕ) → Result Request InputFault
 request_of words =
     if (length words == 9) && is_decompose words
     then (decompose_request (word words 2) (word words 4) (word words 6) (word words 8) >>= λ request. Ok (Decompose request))

@@ -6,7 +6,7 @@ ghost use Rattle.formula_text.specs.Masses.{HasItems};
 ghost use Rattle.formula_text.specs.FormulaTexts.{read_of};
 ghost use Rattle.cover_certificate.specs.Covers.{cover_of, EnclosesEach, CoverReaches};
 ghost use Rattle.isoform.specs.Answering.{Gives};
-ghost use Rattle.isoform.specs.Answer.{answer_of_bytes, answer_of_table, decompose_answer, envelope_answer, or_formula_refusal};
+ghost use Rattle.isoform.specs.Answer.{answer_of_bytes, answer_of_table, decompose_answer, envelope_answer, or_formula_fault};
 ghost use Rattle.isoform.specs.Printed.{IfEnvelope, IsEnvelope};
 ghost use Rattle.isoform.specs.Report.{envelope_report};
 ghost use Rattle.isoform.specs.Requested.{requested, decompose_requested, envelope_requested};
@@ -14,6 +14,7 @@ ghost use Rattle.isoform.specs.Requested.{requested, decompose_requested, envelo
 use crate::alphabet::alphabet_of;
 use crate::candidates::push_candidates;
 use crate::envelope::envelope_report;
+use crate::input_fault::InputFault;
 use crate::refusal::Refusal;
 use crate::report::report_head;
 use crate::request::{DecomposeRequest, EnvelopeRequest, Request};
@@ -30,7 +31,7 @@ pub fn report_of(alloc: Global, request: &Request<'_>, bytes: &[u8]) -> Result<V
     match read_table(alloc, bytes) {
         Ok(table) => report_over(alloc, request, &table),
         Err(TableFault::Memory(_)) => Err(Refusal::Memory),
-        Err(_) => Err(Refusal::Table),
+        Err(_) => Err(Refusal::Input(InputFault::Table)),
     }
 }
 
@@ -80,19 +81,19 @@ fn envelope_over(
     let formula = formula_of(alloc, table, request.formula.as_bytes())?;
     match cover_of(alloc, table, &formula, request.coverage) {
         Ok(cover) => Ok(envelope_report(alloc, &cover)?),
-        Err(CoverFault::Wide) => Err(Refusal::Wide(formula)),
+        Err(CoverFault::Wide) => Err(Refusal::Input(InputFault::Wide(formula))),
         Err(CoverFault::Memory) => Err(Refusal::Memory),
     }
 }
 
 /// The formula of a text.
 fn formula_of(alloc: Global, table: &Table, text: &[u8]) -> Result<Formula, Refusal>
-    ensures value { Gives (λ (f : List (Item × ℕ)). f) result (or_formula_refusal (read_of table.now text.now)) }
+    ensures value { Gives (λ (f : List (Item × ℕ)). f) result (or_formula_fault (read_of table.now text.now)) }
     ensures known { IfOk result (HasItems table.now) }
 {
     match read_formula(alloc, table, text) {
         Ok(formula) => Ok(formula),
         Err(FormulaFault::Memory(_)) => Err(Refusal::Memory),
-        Err(fault) => Err(Refusal::Formula(fault)),
+        Err(fault) => Err(Refusal::Input(InputFault::Formula(fault))),
     }
 }

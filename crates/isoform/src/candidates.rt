@@ -10,6 +10,7 @@ ghost use Rattle.isoform.specs.Candidates.{candidates, limited_candidates, formu
 ghost use Rattle.isoform.specs.Report.{formula_line};
 
 use crate::alphabet::Entry;
+use crate::input_fault::InputFault;
 use crate::refusal::Refusal;
 use crate::report::push_formula_line;
 use decompose::{Counts, Decomps, Limit, ScaleFault, Tables, Window};
@@ -95,7 +96,7 @@ fn push_lines<L: Ledger>(
     'lists: while decomps.next_into(&mut counts, steps) {
         if let Some(formula) = formula_of(alloc, alphabet, counts.counts(), &mut parts)? {
             if found == CANDIDATE_LIMIT {
-                return Err(Refusal::CandidateLimit { peak: 1 });
+                return Err(Refusal::Input(InputFault::CandidateLimit { peak: 1 }));
             }
             push_formula_line(alloc, report, table, asked, &formula)?;
             found += 1;

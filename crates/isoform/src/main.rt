@@ -14,6 +14,7 @@ mod alphabet;
 mod answer;
 mod candidates;
 mod envelope;
+mod input_fault;
 mod refusal;
 mod report;
 mod request;

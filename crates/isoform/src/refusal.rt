@@ -1,79 +1,27 @@
 // Why a run ends without its report, and the note that it leaves.
-ghost use Rattle.std.specs.Prelude.{◌≡◌, ◌++◌, ◌∷◌, [], IfOk, codes, string_bytes};
-ghost use Rattle.formula_text.specs.PrintedText.{printed};
-ghost use Rattle.isoform.specs.Notes.{note_of, status_of, option_text, formula_words};
+ghost use Rattle.std.specs.Prelude.{◌≡◌, IfOk};
+ghost use Rattle.isoform.specs.Notes.{note_of, status_of};
 ghost use Rattle.isoform.specs.declared.refusal.Refusal.TheVariants.{Memory};
 
-use formula_text::{Formula, FormulaFault};
+use crate::input_fault::{InputFault, InputFile};
 use std::alloc::{AllocError, Global};
 
-/// An option whose value has a range.
-#[derive(Clone, Copy, Debug, PartialEq, Eq)]
-pub enum OptionName {
-    /// `--mass`
-    Mass,
-    /// `--da`
-    Da,
-    /// `--coverage`
-    Coverage,
-}
+/// The notes that can be told without memory.
+pub const WRITE_FAULT_NOTE: &[u8] = b"isoform: write fault\n";
 
-impl OptionName {
-    /// The option as it stands among the words.
-    pub fn text(self) -> &'static str
-        ensures { result.now ≡ option_text self }
-    {
-        match self {
-            OptionName::Mass => "--mass",
-            OptionName::Da => "--da",
-            OptionName::Coverage => "--coverage",
-        }
-    }
-}
-
-/// A file that the words name.
-#[derive(Clone, Copy, Debug, PartialEq, Eq)]
-pub enum InputFile {
-    /// The file of `--table`.
-    Table,
-}
+pub const MEMORY_NOTE: &[u8] = b"isoform: memory\n";
 
 /// Why a run ends without its report.
 #[derive(Debug, Drop)]
 pub enum Refusal {
-    /// The words are no request.
-    Words,
-    /// The value of an option is outside its range.
-    Value(OptionName),
-    /// The table's bytes have a fault.
-    Table,
-    /// The alphabet has another form, a symbol that the table doesn't have or one twice, or more
-    /// than 20 symbols.
-    Alphabet,
-    /// The text of the formula has a fault, which is never want of memory.
-    Formula(FormulaFault),
-    /// A file is longer than its limit.
-    FileLimit(InputFile),
-    /// The peak has more than 1,048,576 candidates.
-    CandidateLimit { peak: u64 },
-    /// The formula has more than 1,048,576 isotopologues.
-    Wide(Formula),
+    /// What the program was given is refused.
+    Input(InputFault),
     /// A file could not be read.
     ReadFault(InputFile),
     /// The report could not be written.
     WriteFault,
     /// Want of memory.
     Memory,
-}
-
-/// Why a run ends without its report, beside the name of the table file, which is empty where the words ask
-/// for none.
-#[derive(Debug, Drop)]
-pub struct Refused<'w> {
-    /// The refusal.
-    pub refusal: Refusal,
-    /// The name of the table file.
-    pub table: &'w str,
 }
 
 impl From<AllocError> for Refusal {
@@ -90,10 +38,7 @@ impl Refusal {
         ensures { result ≡ status_of self.now }
     {
         match self {
-            Refusal::Words | Refusal::Value(_) => 2,
-            Refusal::Table => 3,
-            Refusal::Alphabet | Refusal::Formula(_) => 5,
-            Refusal::FileLimit(_) | Refusal::CandidateLimit { .. } | Refusal::Wide(_) => 6,
+            Refusal::Input(fault) => fault.status(),
             Refusal::ReadFault(_) => 7,
             Refusal::WriteFault => 8,
             Refusal::Memory => 9,
@@ -104,55 +49,24 @@ impl Refusal {
     pub fn note(&self, alloc: Global, table: &str) -> Result<Vec<u8>, AllocError>
         ensures { IfOk result (λ note. note.items ≡ note_of table.now self.now) }
     {
-        let note = match self {
-            Refusal::Words => String::from_str(alloc, "isoform: words\n"),
-            Refusal::Value(option) => {
-                let option = option.text();
-                format!(in alloc; "isoform: value: {option}\n")
-            }
-            Refusal::Table => String::from_str(alloc, "isoform: table\n"),
-            Refusal::Alphabet => String::from_str(alloc, "isoform: alphabet\n"),
-            Refusal::Formula(fault) => {
-                let words = formula_words(alloc, fault)?;
-                format!(in alloc; "isoform: formula: {words}\n")
-            }
-            Refusal::FileLimit(InputFile::Table) => {
-                format!(in alloc; "isoform: limit: file {table}\n")
-            }
-            Refusal::CandidateLimit { peak } => {
-                format!(in alloc; "isoform: limit: candidates of peak {peak}\n")
-            }
-            Refusal::Wide(formula) => return wide_note(alloc, formula),
+        match self {
+            Refusal::Input(fault) => fault.note(alloc, table),
             Refusal::ReadFault(InputFile::Table) => {
-                format!(in alloc; "isoform: read fault: {table}\n")
+                let note = format!(in alloc; "isoform: read fault: {table}\n")?;
+                Ok(note.into_bytes())
             }
-            Refusal::WriteFault => String::from_str(alloc, "isoform: write fault\n"),
-            Refusal::Memory => String::from_str(alloc, "isoform: memory\n"),
-        }?;
-        Ok(note.into_bytes())
+            Refusal::WriteFault => Vec::from_slice(alloc, WRITE_FAULT_NOTE),
+            Refusal::Memory => Vec::from_slice(alloc, MEMORY_NOTE),
+        }
     }
 }
 
-/// What is wrong with the text of a formula.
-fn formula_words(alloc: Global, fault: &FormulaFault) -> Result<String, AllocError>
-    ensures { IfOk result (λ words. string_bytes words ≡ formula_words fault.now) }
-{
-    match fault {
-        FormulaFault::BadText { place } => format!(in alloc; "bad text at {place}"),
-        FormulaFault::UnknownSymbol { place } => format!(in alloc; "unknown symbol at {place}"),
-        FormulaFault::TooManyAtoms => String::from_str(alloc, "too many atoms"),
-        FormulaFault::TooManyElements => String::from_str(alloc, "too many elements"),
-        FormulaFault::Empty => String::from_str(alloc, "empty"),
-        FormulaFault::Memory(_) => String::from_str(alloc, "memory"),
-    }
-}
-
-/// The note of a formula that has too many isotopologues.
-fn wide_note(alloc: Global, formula: &Formula) -> Result<Vec<u8>, AllocError>
-    ensures { IfOk result (λ note. note.items ≡ codes "isoform: limit: wide of " ++ printed formula.now ++ 10 ∷ []) }
-{
-    let mut note = Vec::from_slice(alloc, b"isoform: limit: wide of ")?;
-    note.extend_from_slice(&formula.print()?)?;
-    note.push(b'\n')?;
-    Ok(note)
+/// Why a run ends without its report, beside the name of the table file, which is empty where the words ask
+/// for none.
+#[derive(Debug, Drop)]
+pub struct Refused<'w> {
+    /// The refusal.
+    pub refusal: Refusal,
+    /// The name of the table file.
+    pub table: &'w str,
 }

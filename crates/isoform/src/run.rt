@@ -12,7 +12,8 @@ ghost use Rattle.isoform.specs.Printed.{Writes, WritesFor};
 ghost use Rattle.isoform.specs.Run.{Ending, OfFiles, Outside, Shows, TellsNote, IsTold, Fetched, CountsFetchOf, AsksName, IsPut, Runs, outside, ending_of, table_name, file_names, status_of_answer};
 
 use crate::answer::report_of;
-use crate::refusal::{InputFile, Refusal, Refused};
+use crate::input_fault::{InputFault, InputFile};
+use crate::refusal::{MEMORY_NOTE, Refusal, Refused, WRITE_FAULT_NOTE};
 use crate::request::Request;
 use crate::words::request_of;
 use outside_ports::{Failed, FetchFault, Shelf, Sink};
@@ -20,11 +21,6 @@ use std::alloc::{AllocError, Global};
 
 /// The most bytes of a table file.
 const TABLE_LIMIT: u64 = 16_777_216;
-
-/// The notes that take no memory.
-const WRITE_FAULT_NOTE: &[u8] = b"isoform: write fault\n";
-
-const MEMORY_NOTE: &[u8] = b"isoform: memory\n";
 
 /// Fetches the table file.
 fn fetch_table<H: Shelf>(alloc: Global, name: &String, shelf: &mut H) -> Result<Vec<u8>, Refusal>
@@ -38,7 +34,7 @@ fn fetch_table<H: Shelf>(alloc: Global, name: &String, shelf: &mut H) -> Result<
     match shelf.fetch(name, TABLE_LIMIT, &mut bytes) {
         Ok(()) => Ok(bytes),
         Err(FetchFault::Failed) => Err(Refusal::ReadFault(InputFile::Table)),
-        Err(FetchFault::TooLong) => Err(Refusal::FileLimit(InputFile::Table)),
+        Err(FetchFault::TooLong) => Err(Refusal::Input(InputFault::FileLimit(InputFile::Table))),
         Err(FetchFault::Memory) => Err(Refusal::Memory),
     }
 }
@@ -108,7 +104,12 @@ fn serve<'w, H: Shelf, O: Sink>(
 {
     let request = match request_of(words) {
         Ok(request) => request,
-        Err(refusal) => return Err(Refused { refusal, table: "" }),
+        Err(fault) => {
+            return Err(Refused {
+                refusal: Refusal::Input(fault),
+                table: "",
+            });
+        }
     };
     match serve_request(alloc, &request, shelf, out) {
         Ok(()) => Ok(()),

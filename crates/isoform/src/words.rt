@@ -6,7 +6,7 @@ ghost use Rattle.isoform.specs.Words.{word, is_decompose, is_envelope, is_value,
 ghost use Rattle.isoform.specs.Requested.{requested, decompose_requested, envelope_requested};
 ghost use Rattle.fixed_decimal.specs.Decimal.{read_decimal};
 
-use crate::refusal::{OptionName, Refusal};
+use crate::input_fault::{InputFault, OptionName};
 use crate::request::{
     DecomposeRequest, EnvelopeRequest, GREATEST_COVERAGE, GREATEST_MASS, GREATEST_TOLERANCE,
     Request,
@@ -17,7 +17,7 @@ use fixed_decimal::Fixed;
 /// `envelope --table F --formula T --coverage C`, each in this order. Other words are refused, and then the
 /// first value that is outside its range.
 #[tactic(auto, unfolding(crate::specs::Words::request_of))]
-pub fn request_of(words: &[String]) -> Result<Request<'_>, Refusal>
+pub fn request_of(words: &[String]) -> Result<Request<'_>, InputFault>
     ensures { seen_through requested result ≡ request_of (map string_bytes words.now) }
 {
     if words.len() == 9 && is_decompose(words) {
@@ -32,7 +32,7 @@ pub fn request_of(words: &[String]) -> Result<Request<'_>, Refusal>
         let request = envelope_request(word(words, 2), word(words, 4), word(words, 6))?;
         Ok(Request::Envelope(request))
     } else {
-        Err(Refusal::Words)
+        Err(InputFault::Words)
     }
 }
 
@@ -90,7 +90,7 @@ fn decompose_request<'w>(
     mass: &'w String,
     da: &'w String,
     alphabet: &'w String,
-) -> Result<DecomposeRequest<'w>, Refusal>
+) -> Result<DecomposeRequest<'w>, InputFault>
     ensures { seen_through decompose_requested result
         ≡ decompose_request (string_bytes table.now) (string_bytes mass.now) (string_bytes da.now) (string_bytes alphabet.now) }
 {
@@ -109,7 +109,7 @@ fn envelope_request<'w>(
     table: &'w String,
     formula: &'w String,
     coverage: &'w String,
-) -> Result<EnvelopeRequest<'w>, Refusal>
+) -> Result<EnvelopeRequest<'w>, InputFault>
     ensures { seen_through envelope_requested result
         ≡ envelope_request (string_bytes table.now) (string_bytes formula.now) (string_bytes coverage.now) }
 {
@@ -132,12 +132,12 @@ fn units_in<const D: u32>(
     low: u64,
     high: u64,
     value: &[u8],
-) -> Result<u64, Refusal>
+) -> Result<u64, InputFault>
     ensures value { result ≡ in_range option low (read_decimal D high value.now) }
     ensures range { IfOk result (λ units. (low ≤ units) × (units ≤ high)) }
 {
     match Fixed::<D>::read(value, high) {
         Ok(number) if number.units() >= low => Ok(number.units()),
-        _ => Err(Refusal::Value(option)),
+        _ => Err(InputFault::Value(option)),
     }
 }

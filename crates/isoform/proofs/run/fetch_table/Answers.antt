@@ -1,6 +1,6 @@
 use Rattle.std.proofs.Common.{refl}
 use Rattle.std.specs.Prelude.{string_bytes}
-use Rattle.isoform.specs.declared.refusal.InputFile.TheVariants.{Table}
+use Rattle.isoform.specs.declared.input_fault.InputFile.TheVariants.{Table}
 use Rattle.isoform.proofs.ToldFiles.{some_files, fetched_whole, fetched_long}
 use Rattle.isoform.proofs.run.fetch_table.Goals as goal
 

@@ -1,7 +1,6 @@
 use Rattle.std.specs.Prelude.{Ok, map, string_bytes}
 use Rattle.isoform.specs.Words.{request_of}
 use Rattle.isoform.specs.Requested.{requested}
-use Rattle.isoform.proofs.Contents.{request_of_content}
 use Rattle.isoform.proofs.Endings.{words_show, writes_for, refused_words_show}
 use Rattle.isoform.proofs.ToldFiles.{of_files_map, some_files}
 use Rattle.isoform.proofs.run.serve.Goals as goal
@@ -9,7 +8,7 @@ use Rattle.isoform.proofs.run.serve.Goals as goal
 pub returns-in-Err-clause-shows : goal.returns-in-Err-clause-shows
 returns-in-Err-clause-shows g c =
     let words = map string_bytes c.args.words.now in
-    of_files_map (λ files any. refused_words_show words files _ c.in-Err.refusal (request_of_content words) c.in-Err.ensures) (some_files (g.H.Shelf.held c.args.shelf.now))
+    of_files_map (λ files any. refused_words_show words files _ c.in-Err.fault c.in-Err.ensures) (some_files (g.H.Shelf.held c.args.shelf.now))
 
 pub returns-in-Ok-serve_request-clause-shows : goal.returns-in-Ok-serve_request-clause-shows
 returns-in-Ok-serve_request-clause-shows g c =

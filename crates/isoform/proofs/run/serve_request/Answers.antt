@@ -3,7 +3,6 @@ use Rattle.std.proofs.lemmas.Result.{err_from_is_err_and}
 use Rattle.isoform.specs.Answer.{answer_of_bytes}
 use Rattle.isoform.specs.Requested.{requested}
 use Rattle.std.specs.Prelude.{Err}
-use Rattle.isoform.proofs.Contents.{answer_of_bytes_content}
 use Rattle.isoform.proofs.Endings.{part_shows, answer-fetched}
 use Rattle.isoform.proofs.ToldFiles.{of_files_map}
 use Rattle.isoform.proofs.run.serve_request.Goals as goal
@@ -17,7 +16,7 @@ returns-in_err-report-clause-shows g c =
     rw (given.1, given.2)
     (of_files_map
     (λ files fetched.
-    part_shows _ (answer_of_bytes request bytes) _ _ _ refusal (answer_of_bytes_content request bytes) c.in_err-report.ensures.value
-    (λ is. answer-fetched request files c.in_ok-bytes.bytes.items (Err refusal) fetched (ap (answer_of_bytes request) (sym c.deref.ensures.value) ∙ is))
+    part_shows _ (answer_of_bytes request bytes) _ _ _ refusal c.in_err-report.ensures.value
+    (λ fault is. answer-fetched request files c.in_ok-bytes.bytes.items (Err fault) fetched (ap (answer_of_bytes request) (sym c.deref.ensures.value) ∙ is))
     (rw c.table.ensures at c.in_ok-bytes.ensures.asks) c.in_ok-bytes.ensures.counts refl refl)
     (rw c.table.ensures at c.in_ok-bytes.ensures.fetched))

@@ -1,0 +1,126 @@
+// What is wrong with what the program was given: its words, and what they name.
+ghost use Rattle.std.specs.Prelude.{◌≡◌, ◌++◌, ◌∷◌, [], IfOk, codes, string_bytes};
+ghost use Rattle.formula_text.specs.PrintedText.{printed};
+ghost use Rattle.isoform.specs.Notes.{note_of, status_of_fault, option_text, formula_words};
+ghost use Rattle.isoform.specs.declared.refusal.Refusal.TheVariants.{Input};
+
+use formula_text::{Formula, FormulaFault};
+use std::alloc::{AllocError, Global};
+
+/// An option whose value has a range.
+#[derive(Clone, Copy, Debug, PartialEq, Eq)]
+pub enum OptionName {
+    /// `--mass`
+    Mass,
+    /// `--da`
+    Da,
+    /// `--coverage`
+    Coverage,
+}
+
+impl OptionName {
+    /// The option as it stands among the words.
+    pub fn text(self) -> &'static str
+        ensures { result.now ≡ option_text self }
+    {
+        match self {
+            OptionName::Mass => "--mass",
+            OptionName::Da => "--da",
+            OptionName::Coverage => "--coverage",
+        }
+    }
+}
+
+/// A file that the words name.
+#[derive(Clone, Copy, Debug, PartialEq, Eq)]
+pub enum InputFile {
+    /// The file of `--table`.
+    Table,
+}
+
+/// Why what the program was given is refused.
+#[derive(Debug, Drop)]
+pub enum InputFault {
+    /// The words are no request.
+    Words,
+    /// The value of an option is outside its range.
+    Value(OptionName),
+    /// A file is longer than its limit.
+    FileLimit(InputFile),
+    /// The table's bytes have a fault.
+    Table,
+    /// The alphabet has another form, a symbol that the table doesn't have or one twice, or more
+    /// than 20 symbols.
+    Alphabet,
+    /// The text of the formula has a fault, which is never want of memory.
+    Formula(FormulaFault),
+    /// The peak has more than 1,048,576 candidates.
+    CandidateLimit { peak: u64 },
+    /// The formula has more than 1,048,576 isotopologues.
+    Wide(Formula),
+}
+
+impl InputFault {
+    /// The exit status.
+    pub fn status(&self) -> u8
+        ensures { result ≡ status_of_fault self.now }
+    {
+        match self {
+            InputFault::Words | InputFault::Value(_) => 2,
+            InputFault::Table => 3,
+            InputFault::Alphabet | InputFault::Formula(_) => 5,
+            InputFault::FileLimit(_) | InputFault::CandidateLimit { .. } | InputFault::Wide(_) => 6,
+        }
+    }
+
+    /// The note, one line. `table` is the name of the table file.
+    pub fn note(&self, alloc: Global, table: &str) -> Result<Vec<u8>, AllocError>
+        ensures { IfOk result (λ note. note.items ≡ note_of table.now (Input self.now)) }
+    {
+        let note = match self {
+            InputFault::Words => String::from_str(alloc, "isoform: words\n"),
+            InputFault::Value(option) => {
+                let option = option.text();
+                format!(in alloc; "isoform: value: {option}\n")
+            }
+            InputFault::FileLimit(InputFile::Table) => {
+                format!(in alloc; "isoform: limit: file {table}\n")
+            }
+            InputFault::Table => String::from_str(alloc, "isoform: table\n"),
+            InputFault::Alphabet => String::from_str(alloc, "isoform: alphabet\n"),
+            InputFault::Formula(fault) => {
+                let words = formula_words(alloc, fault)?;
+                format!(in alloc; "isoform: formula: {words}\n")
+            }
+            InputFault::CandidateLimit { peak } => {
+                format!(in alloc; "isoform: limit: candidates of peak {peak}\n")
+            }
+            InputFault::Wide(formula) => return wide_note(alloc, formula),
+        }?;
+        Ok(note.into_bytes())
+    }
+}
+
+/// What is wrong with the text of a formula.
+fn formula_words(alloc: Global, fault: &FormulaFault) -> Result<String, AllocError>
+    ensures { IfOk result (λ words. string_bytes words ≡ formula_words fault.now) }
+{
+    match fault {
+        FormulaFault::BadText { place } => format!(in alloc; "bad text at {place}"),
+        FormulaFault::UnknownSymbol { place } => format!(in alloc; "unknown symbol at {place}"),
+        FormulaFault::TooManyAtoms => String::from_str(alloc, "too many atoms"),
+        FormulaFault::TooManyElements => String::from_str(alloc, "too many elements"),
+        FormulaFault::Empty => String::from_str(alloc, "empty"),
+        FormulaFault::Memory(_) => String::from_str(alloc, "memory"),
+    }
+}
+
+/// The note of a formula that has too many isotopologues.
+fn wide_note(alloc: Global, formula: &Formula) -> Result<Vec<u8>, AllocError>
+    ensures { IfOk result (λ note. note.items ≡ codes "isoform: limit: wide of " ++ printed formula.now ++ 10 ∷ []) }
+{
+    let mut note = Vec::from_slice(alloc, b"isoform: limit: wide of ")?;
+    note.extend_from_slice(&formula.print()?)?;
+    note.push(b'\n')?;
+    Ok(note)
+}
