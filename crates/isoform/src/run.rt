@@ -1,5 +1,5 @@
 // The program: from its words and a shelf of files to an output, notes and a status.
-ghost use Rattle.std.specs.Prelude.{◌+◌, length, ◌≡◌, ◌≢◌, ◌<◌, ◌≤◌, ◌⊎◌, ◌∷◌, [], map, string_bytes, List, Option, Result, Ok, Err, IfOk, IfErr, IsOkAnd};
+ghost use Rattle.std.specs.Prelude.{◌+◌, ◌==◌, length, position, IfSome, ◌≡◌, ◌≢◌, ◌<◌, ◌≤◌, ◌⊎◌, ◌∷◌, [], map, string_bytes, List, Option, Result, Ok, Err, IfOk, IfErr, IsOkAnd};
 ghost use Rattle.outside_ports.specs.Files.{Files};
 ghost use Rattle.outside_ports.specs.Faults.{Rose};
 ghost use Rattle.outside_ports.specs.Putting.{append_written, AppendsPiece, CountsPut};
@@ -9,6 +9,7 @@ ghost use Rattle.isoform.specs.Notes.{note_of, status_of};
 ghost use Rattle.isoform.specs.Words.{request_of, table_of};
 ghost use Rattle.isoform.specs.Requested.{requested};
 ghost use Rattle.isoform.specs.Printed.{Writes, WritesFor};
+ghost use Rattle.isoform.specs.Report.{first_line_len};
 ghost use Rattle.isoform.specs.Run.{Ending, OfFiles, Outside, Shows, TellsNote, IsTold, Fetched, CountsFetchOf, AsksName, IsPut, Runs, outside, ending_of, table_name, file_names, status_of_answer};
 
 use crate::answer::report_of;
@@ -57,13 +58,22 @@ fn write_lines<O: Sink>(report: &[u8], out: &mut O) -> Result<(), Failed>
 /// The length of the first line, its line feed included.
 fn line_len(text: &[u8]) -> usize
     requires { 0 < length text.now }
+    ensures length { result ≡ first_line_len text.now }
     ensures some { 0 < result }
     ensures within { result ≤ length text.now }
 {
-    match text.iter().position(|byte| *byte == b'\n') {
+    match line_feed(text) {
         Some(place) => place + 1,
         None => text.len(),
     }
+}
+
+/// The place of the first line feed.
+fn line_feed(text: &[u8]) -> Option<usize>
+    ensures place { result ≡ position (λ byte. byte == 10) text.now }
+    ensures within { IfSome result (λ place. place < length text.now) }
+{
+    text.iter().position(|byte| *byte == b'\n')
 }
 
 /// Serves a request: fetches its table, and writes the report or says why there is none.
