@@ -75,7 +75,8 @@ fn formula_of(
     Formula::of(alloc, parts)
 }
 
-/// Appends the lines of the formulas that an enumeration of counts has left.
+/// Appends the lines of the formulas that an enumeration of counts has left. More than 1,048,576 of them are
+/// refused. The steps of the search are counted in the ledger that `blank` opens.
 fn push_lines<L: Ledger>(
     alloc: Global,
     report: &mut Vec<u8>,
@@ -83,17 +84,21 @@ fn push_lines<L: Ledger>(
     alphabet: &[Entry],
     asked: u64,
     decomps: &mut Decomps<'_>,
-    steps: &mut Steps<L>,
+    blank: Blank,
 ) -> Result<(), Refusal>
     requires alphabet { All (IsEntry table.now) alphabet.now }
     requires one_mass_each { length decomps.old.masses ≡ length alphabet.now }
+    requires name { blank.name ≡ L.name }
+    requires parts { blank.parts ≡ L.parts }
+    requires some { 0 < blank.parts }
     ensures { Gives (λ _. report.new.items) result (with_lines report.old.items (formula_line table.now asked)
         (filter_map (formula_of_counts alphabet.now) (left decomps.old))) }
 {
+    let mut steps = Steps::<L>::new(blank);
     let mut counts = Counts::zero(alloc, alphabet.len())?;
     let mut parts = Vec::new(alloc);
     let mut found = 0;
-    'lists: while decomps.next_into(&mut counts, steps) {
+    'lists: while decomps.next_into(&mut counts, &mut steps) {
         if let Some(formula) = formula_of(alloc, alphabet, counts.counts(), &mut parts)? {
             if found == CANDIDATE_LIMIT {
                 return Err(Refusal::Input(InputFault::CandidateLimit { peak: 1 }));
@@ -107,44 +112,6 @@ fn push_lines<L: Ledger>(
 
 /// Appends the lines of the formulas of an alphabet with a mass within the tolerance, in
 /// lexicographic order of their counts. More than 1,048,576 of them are refused.
-fn push_all_lines<L: Ledger>(
-    alloc: Global,
-    report: &mut Vec<u8>,
-    table: &Table,
-    alphabet: &[Entry],
-    mass: u64,
-    da: u64,
-    blank: Blank,
-) -> Result<(), Refusal>
-    requires alphabet { IsAlphabet table.now alphabet.now }
-    requires some_mass { 1 ≤ mass }
-    requires fits { mass + da < 2 ^ 64 }
-    requires name { blank.name ≡ L.name }
-    requires parts { blank.parts ≡ L.parts }
-    requires some { 0 < blank.parts }
-    ensures { Gives (λ _. report.new.items) result (with_lines report.old.items (formula_line table.now mass) (candidates alphabet.now mass da)) }
-{
-    let masses = masses_of(alloc, alphabet)?;
-    let limits = limits_of(alloc, alphabet)?;
-    let tables = match Tables::of(alloc, &masses) {
-        Ok(tables) => tables,
-        Err(ScaleFault::Memory) => return Err(Refusal::Memory),
-        Err(ScaleFault::BaseTooHeavy) => unreachable!(),
-    };
-    let mut decomps = Decomps::start(alloc, &tables, &limits, window_of(mass, da))?;
-    let mut steps = Steps::<L>::new(blank);
-    push_lines(
-        alloc,
-        report,
-        table,
-        alphabet,
-        mass,
-        &mut decomps,
-        &mut steps,
-    )
-}
-
-/// As above, for a caller that counts no steps.
 pub fn push_candidates(
     alloc: Global,
     report: &mut Vec<u8>,
@@ -158,5 +125,14 @@ pub fn push_candidates(
     requires fits { mass + da < 2 ^ 64 }
     ensures { Gives (λ _. report.new.items) result (with_lines report.old.items (formula_line table.now mass) (candidates alphabet.now mass da)) }
 {
-    push_all_lines::<Brand>(alloc, report, table, alphabet, mass, da, Blank::new(1))
+    let masses = masses_of(alloc, alphabet)?;
+    let limits = limits_of(alloc, alphabet)?;
+    let tables = match Tables::of(alloc, &masses) {
+        Ok(tables) => tables,
+        Err(ScaleFault::Memory) => return Err(Refusal::Memory),
+        Err(ScaleFault::BaseTooHeavy) => unreachable!(),
+    };
+    let mut decomps = Decomps::start(alloc, &tables, &limits, window_of(mass, da))?;
+    let blank = Blank::new(1);
+    push_lines::<Brand>(alloc, report, table, alphabet, mass, &mut decomps, blank)
 }

@@ -7,15 +7,15 @@ use Rattle.isoform.specs.Answering.{Gives}
 use Rattle.isoform.specs.Candidates.{candidates, window_of, all_limits, formula_of_counts, with_lines}
 use Rattle.isoform.specs.Report.{formula_line}
 use Rattle.isoform.proofs.AlphabetMasses.{are_masses, base_of-alphabet}
-use Rattle.isoform.proofs.candidates.push_all_lines.Goals as goal
+use Rattle.isoform.proofs.candidates.push_candidates.Goals as goal
 
 pub of-requires : goal.of-requires
-of-requires g c =
+of-requires c =
     subst AreMasses (sym (c.deref.ensures.value ∙ c.in_ok-masses.ensures)) (are_masses c.args.table.now c.args.alphabet.now c.requires.alphabet)
 
 pub returns : goal.returns
 unfolding candidates
-returns g c =
+returns c =
     let alphabet = c.args.alphabet.now in
     let tables : c.in-Ok.tables ≡ map (λ e. e.mass) alphabet = c.in-Ok.ensures.masses ∙ c.deref.ensures.value ∙ c.in_ok-masses.ensures in
     let lists : left c.in_ok-decomps.decomps ≡ vectors (map (λ e. e.mass) alphabet) (all_limits alphabet) (window_of c.args.mass c.args.da) =
@@ -28,7 +28,7 @@ returns g c =
     lists c.push_lines.ensures
 
 pub unreachable-requires : goal.unreachable-requires
-unreachable-requires g c =
+unreachable-requires c =
     let heavy = c.in-Err-BaseTooHeavy.ensures.too_heavy.0 (ap Err c.in-Err-BaseTooHeavy.field-0-is) in
     let light = base_of-alphabet c.args.table.now c.args.alphabet.now c.requires.alphabet in
     omega (arith, heavy, light, ap base_of (c.deref.ensures.value ∙ c.in_ok-masses.ensures))
