@@ -46,6 +46,8 @@ expect 7 "isoform: read fault: folder" "a folder as a file" of folder
 expect 7 "" "standard error full" other_note
 expect 2 "isoform: words" "no words" "$root/isoform"
 expect 2 "isoform: words" "a word that is no text" "$root/isoform" decompose --table $'\xff' --mass 10 --da 0 --alphabet AB
+head -c 16777216 /dev/zero >whole.csv
+expect 3 "isoform: table" "a file of exactly its limit" of whole.csv
 head -c 16777217 /dev/zero >long.csv
 expect 6 "isoform: limit: file long.csv" "a file that is too long" of long.csv
 

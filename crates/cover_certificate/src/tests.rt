@@ -276,7 +276,7 @@ fn carbon_dioxide(rt: HostRuntime) -> Result<(), Fail> {
     expect(&rt, alloc, ELEMENTS, b"CO2", MOST, most)
 }
 
-// An isotope of abundance 0 takes no part: with it W2 had six isotopologues.
+// An isotope of abundance 0 takes no part: with it there were six isotopologues.
 #[test]
 fn isotopes_that_dont_occur(rt: HostRuntime) -> Result<(), Fail> {
     let middle = Expected {

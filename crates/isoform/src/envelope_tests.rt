@@ -8,7 +8,7 @@ use std::test::Fail;
 
 /// Two isotopes of equal weight, and three; one of an element whose second isotope doesn't occur.
 const EQUAL: &[u8] =
-    b"symbol,number,mass,abundance,valence\ne-,0,0.000548579909,0,0\nX,10,10,0.5,1\nX,11,11,0.5,1\nY,20,20,0.3,2\nY,21,21,0.3,2\nY,22,22,0.3,2\nW,30,30,0.25,1\nW,31,31,0,1\nW,32,32,0.75,1\n";
+    b"symbol,number,mass,abundance,valence\ne-,0,0.000548579909,0,0\nX,10,10,0.5,1\nX,11,11,0.5,1\nY,20,20,0.3,2\nY,21,21,0.3,2\nY,22,22,0.3,2\nV,30,30,0.25,1\nV,31,31,0,1\nV,32,32,0.75,1\n";
 
 /// Sixteen isotopes of equal weight.
 const SIXTEEN: &[u8] =
@@ -132,11 +132,11 @@ fn covers_of_formulas(rt: HostRuntime) -> Result<(), Fail> {
         },
         // The isotope of weight 0 takes no part.
         Case {
-            formula: "W2",
+            formula: "V2",
             coverage: "0.9",
             table: EQUAL,
             status: 0,
-            out: b"envelope W2\ncoverage 900000000000000000\nsize 2\nthreshold 281250000000000000\nisotopologue [32W]2 64.000000000000 562500000000000000 562500000000000000\nisotopologue [30W][32W] 62.000000000000 375000000000000000 375000000000000000\n",
+            out: b"envelope V2\ncoverage 900000000000000000\nsize 2\nthreshold 281250000000000000\nisotopologue [32V]2 64.000000000000 562500000000000000 562500000000000000\nisotopologue [30V][32V] 62.000000000000 375000000000000000 375000000000000000\n",
             note: b"",
         },
     ];
