@@ -95,6 +95,24 @@ lines() {
 expect 0 "" "an envelope" envelope elements.csv CO2 0.99
 lines 6 "an envelope"
 expect 8 "isoform: write fault" "an envelope to a full device" envelope_to_full
+# Sizes of smallest sets that IsoSpec 2.2.1 gives for this table, in floating point.
+while read -r formula coverage size; do
+    expect 0 "" "the cover of $formula" envelope elements.csv "$formula" "$coverage"
+    if [ "$(grep '^size' out)" != "size $size" ]; then
+        failed=$((failed + 1))
+        echo "the cover of $formula for $coverage: $(grep '^size' out) in place of $size"
+    fi
+done <<'END'
+C6H12O6 0.999 7
+C6H12O6 0.999999 25
+C20H30N4O8 0.999 14
+C20H30N4O8 0.999999 79
+C30H40O10 0.9999 22
+C5S3Cl5 0.99 22
+S20 0.999 19
+C100Cl40 0.999 105
+O1446 0.999999 97
+END
 expect 0 "" "1,047,628 isotopologues of one element" envelope elements.csv O1446 0.999999
 expect 6 "isoform: limit: wide of O1447" "1,049,076 isotopologues of one element" envelope elements.csv O1447 0.999999
 expect 0 "" "1,048,576 isotopologues of 20 elements" envelope pairs.csv "$(printf %s {A..T}a)" 0.999999
