@@ -47,7 +47,7 @@ expect 7 "" "standard error full" other_note
 expect 2 "isoform: words" "no words" "$root/isoform"
 expect 2 "isoform: words" "a word that is no text" "$root/isoform" decompose --table $'\xff' --mass 10 --da 0 --alphabet AB
 head -c 16777216 /dev/zero >whole.csv
-expect 3 "isoform: table" "a file of exactly its limit" of whole.csv
+expect 3 "isoform: table: record 1: header" "a file of exactly its limit" of whole.csv
 head -c 16777217 /dev/zero >long.csv
 expect 6 "isoform: limit: file long.csv" "a file that is too long" of long.csv
 
@@ -69,15 +69,15 @@ elements 121 >elements121.csv
 : >empty.csv
 { printf "$head" && head -c 1000000 /dev/zero | tr '\0' A && echo ,1,10,1,1; } >wide.csv
 expect 0 "" "16 isotopes" of isotopes16.csv
-expect 3 "isoform: table" "17 isotopes" of isotopes17.csv
+expect 3 "isoform: table: record 19: too many isotopes" "17 isotopes" of isotopes17.csv
 expect 0 "" "120 elements" of elements120.csv
-expect 3 "isoform: table" "121 elements" of elements121.csv
-expect 3 "isoform: table" "an empty table" of empty.csv
-expect 3 "isoform: table" "a field of a million bytes" of wide.csv
+expect 3 "isoform: table: record 123: too many elements" "121 elements" of elements121.csv
+expect 3 "isoform: table: record 1: header" "an empty table" of empty.csv
+expect 3 "isoform: table: record 3: symbol" "a field of a million bytes" of wide.csv
 
 symbols() { "$root/isoform" decompose --table elements120.csv --mass 10 --da 0 --alphabet "$1" >out; }
 expect 0 "" "20 symbols" symbols "$(printf %s C{a..t})"
-expect 5 "isoform: alphabet" "21 symbols" symbols "$(printf %s C{a..u})"
+expect 5 "isoform: alphabet: too many" "21 symbols" symbols "$(printf %s C{a..u})"
 
 # Envelopes: as many isotopologues as there may be, and more.
 envelope() { timeout 60 "$root/isoform" envelope --table "$1" --formula "$2" --coverage "$3" >out; }
@@ -93,7 +93,7 @@ lines() {
     for name in {A..T}a; do printf "$name,1,10,0.6,1\n$name,2,11,0.4,1\n"; done
 } >pairs.csv
 expect 0 "" "an envelope" envelope elements.csv CO2 0.99
-lines 6 "an envelope"
+lines 7 "an envelope"
 expect 8 "isoform: write fault" "an envelope to a full device" envelope_to_full
 # Sizes of smallest sets that IsoSpec 2.2.1 gives for this table, in floating point.
 while read -r formula coverage size; do
@@ -116,7 +116,7 @@ END
 expect 0 "" "1,047,628 isotopologues of one element" envelope elements.csv O1446 0.999999
 expect 6 "isoform: limit: wide of O1447" "1,049,076 isotopologues of one element" envelope elements.csv O1447 0.999999
 expect 0 "" "1,048,576 isotopologues of 20 elements" envelope pairs.csv "$(printf %s {A..T}a)" 0.999999
-lines 1048533 "1,048,576 isotopologues of 20 elements"
+lines 1048534 "1,048,576 isotopologues of 20 elements"
 expect 6 "isoform: limit: wide of $(printf %s {A..S}a)Ta2" "more isotopologues of 20 elements" envelope pairs.csv "$(printf %s {A..T}a)Ta" 0.5
 expect 5 "isoform: formula: too many elements" "a formula of 21 elements" envelope elements120.csv "$(printf %s C{a..u})" 0.5
 expect 2 "isoform: value: --coverage" "a coverage above 0.999999" envelope elements.csv CO2 0.9999991

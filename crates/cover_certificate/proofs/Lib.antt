@@ -1,3 +1,2 @@
-pub mod CountsLemmas
-pub mod Members
-pub mod ExactWeights
+pub mod PrintedMembers
+pub mod CoverAnswers

@@ -1,1 +1,10 @@
-pub mod Covers
+pub use Rattle.multinomial_bounds.specs.Bounds
+pub use Rattle.multinomial_bounds.specs.Isotopologue
+pub use Rattle.reader_answers.specs.Answers
+pub use Rattle.isotopologue_sets.specs.Layers
+pub use Rattle.isotopologue_sets.specs.Coverage
+pub use Rattle.isotopologue_sets.specs.Covers
+pub use Rattle.reaching_layer.specs.LayerAnswers
+pub use Rattle.reaching_layer.specs.CountsByElement
+pub use Rattle.isotopologue_text.specs.Isotopologues
+pub mod FormulaCovers

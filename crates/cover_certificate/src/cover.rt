@@ -1,23 +1,28 @@
 //! The cover of a formula.
 
-use crate::member::CoverMember;
+use crate::member::{CoverMember, members_of};
+use element_table::Table;
 use formula_text::Formula;
+use isotopologue_text::elements_of;
+use reaching_layer::{CoverFault, reaching_layer};
+use std::alloc::{AllocError, Global};
 use std::marker::Model;
 
-/// The cover of a formula: the members of the reaching layer by falling lower bound, ties in the
-/// lexicographic order of isotopologues, of which the first are the cover.
+/// The cover of a formula: the members of the reaching layer by falling lower bound, ties in the lexicographic order
+/// of their counts, of which the first are the cover.
 #[derive(Debug, Drop)]
 pub struct Cover {
-    pub(crate) formula: Formula,
-    pub(crate) coverage: u64,
-    pub(crate) threshold: u64,
-    pub(crate) size: u64,
-    pub(crate) layer: Vec<CoverMember>,
+    formula: Formula,
+    coverage: u64,
+    threshold: u64,
+    size: u64,
+    bound: u64,
+    layer: Vec<CoverMember>,
 }
 
 impl Model for Cover {
     ghost use Rattle.std.specs.Prelude.{◌≤◌, length};
-    ghost use Rattle.cover_certificate.specs.Covers.{CoverEntries};
+    ghost use Rattle.cover_certificate.specs.FormulaCovers.{CoverEntries};
 
     ghost Value = { CoverEntries };
 
@@ -26,6 +31,7 @@ impl Model for Cover {
       coverage = c.coverage;
       threshold = c.threshold;
       size = c.size;
+      bound = c.bound;
       layer = c.layer.items;
     } };
 
@@ -35,13 +41,20 @@ impl Model for Cover {
 impl Cover {
     ghost use Rattle.std.specs.Prelude.{◌≡◌, ◌≤◌, length};
 
-    /// How many members the cover has: as few, from the front of the layer, as have lower bounds that total
-    /// at least the coverage, and the whole layer where even all have less.
+    /// How many members the cover has: as few, from the first one of the layer on, as have lower bounds that total
+    /// at least the coverage.
     pub fn size(&self) -> u64
         ensures size { result ≡ self.now.size }
         ensures within { result ≤ length self.now.layer }
     {
         self.size
+    }
+
+    /// A number such that no set of fewer isotopologues of the formula has the coverage.
+    pub fn bound(&self) -> u64
+        ensures { result ≡ self.now.bound }
+    {
+        self.bound
     }
 
     /// The threshold of the reaching layer, in units of 10^-18: its members' upper bounds are above it.
@@ -71,4 +84,49 @@ impl Cover {
     {
         &self.layer
     }
+}
+
+ghost use Rattle.std.specs.Prelude.{◌≡◌, ◌*◌, ◌^◌, ◌≤◌, All, IfOk, map};
+ghost use Rattle.reader_answers.specs.Answers.{Gives};
+ghost use Rattle.multinomial_bounds.specs.Bounds.{IsEnclosure};
+ghost use Rattle.multinomial_bounds.specs.Isotopologue.{isotopologue_weight, all_weight};
+ghost use Rattle.isotopologue_sets.specs.Covers.{IsCover};
+ghost use Rattle.reaching_layer.specs.LayerAnswers.{is_memory};
+ghost use Rattle.formula_text.specs.Masses.{HasItems};
+ghost use Rattle.isotopologue_text.specs.Isotopologues.{formula_elements, IsIsotopologueOf};
+ghost use Rattle.cover_certificate.specs.FormulaCovers.{cover_unless_wide, member_numbers};
+
+/// The cover of a formula for a wanted coverage in units of 10^-18, from 1 to 999,999 * 10^12.
+///
+/// `Wide` comes exactly where the formula has more than 1,048,576 isotopologues of isotopes that occur, which is
+/// found by counting them; `Memory` for want of memory. Time and memory are in proportion to their number.
+pub fn cover_of(
+    alloc: Global,
+    table: &Table,
+    formula: &Formula,
+    coverage: u64,
+) -> Result<Cover, CoverFault>
+    requires known { HasItems table.now formula.now }
+    requires some { 1 ≤ coverage }
+    requires below_one { coverage ≤ 999999 * 10 ^ 12 }
+    ensures cover { Gives is_memory result (cover_unless_wide table.now formula.now coverage) }
+
+    // What follows of the returned cover, by the exact weights of its members.
+    ensures isotopologues { IfOk result (λ c. All (λ m. IsIsotopologueOf table.now formula.now m.counts) c.layer) }
+    ensures claims { IfOk result (λ c. let elements = formula_elements table.now formula.now in
+        IsCover elements coverage c.size c.bound (map (member_numbers elements) c.layer)) }
+    ensures encloses { IfOk result (λ c. let elements = formula_elements table.now formula.now in
+        All (λ m. IsEnclosure m.lo m.hi (isotopologue_weight elements m.counts) (all_weight elements))
+        (map (member_numbers elements) c.layer)) }
+{
+    let elements = elements_of(alloc, table, formula)?;
+    let numbers = reaching_layer(alloc, &elements, coverage)?;
+    Ok(Cover {
+        formula: formula.clone()?,
+        coverage,
+        threshold: numbers.threshold(),
+        size: numbers.size() as u64,
+        bound: numbers.bound() as u64,
+        layer: members_of(alloc, table, formula, &numbers)?,
+    })
 }

@@ -1,29 +1,22 @@
-//! Covers of formulas: the likeliest isotopologues that together have a wanted coverage.
+//! Covers of formulas: isotopologues that together have a wanted coverage, as they are printed.
 //!
-//! All isotopologues of a formula are listed with the enclosures of their probabilities. Those whose
-//! upper bound is above a threshold are a layer; the threshold is halved until the lower bounds of a layer
-//! total at least the coverage, and the layer's members by falling lower bound, as few as have the
-//! coverage, are the cover. The smallest set of a wanted coverage is what M. Lacki, M. Startek, D. Valkenborg
-//! and A. Gambin ask for ("IsoSpec: Hyperfast Fine Structure Calculator", Analytical Chemistry 89, 2017);
-//! that rounding keeps no smaller set from it is not proved yet.
+//! The cover of a formula is that of its elements, from `reaching_layer`, with the text and the mass of each member.
+//! Its contract says what the numbers claim: the first members, as many as its size, reach the coverage in exact
+//! weights, and no set of isotopologues with fewer members than its bound does.
 //!
-//! A [`Cover`] is seen by contracts as its formula, coverage, threshold and size and the members of its layer,
-//! and a [`CoverMember`] as its text, its mass and its two bounds. The crate stands on `isotopologue_list` and
-//! `multinomial_bounds` for the isotopologues and their bounds, on `reaching_cover` for the threshold, the
-//! order and the size, on `isotopologue_text` for what is printed, and on `formula_text` and `element_table`.
-//! The program asks [`cover_of`] for the cover of a formula, which refuses one that has too many
-//! isotopologues.
+//! A [`Cover`] is seen by contracts as its formula, coverage, threshold, size and bound and the members of its layer,
+//! and a [`CoverMember`] as its counts, its text, its mass and its two bounds. The crate stands on `reaching_layer`
+//! and `isotopologue_sets` for the cover's numbers, on `isotopologue_text` for what is printed, on
+//! `multinomial_bounds`, `formula_text`, `element_table` and `reader_answers`. The program asks [`cover_of`] for the
+//! cover of a formula, which refuses one that has too many isotopologues.
 #![tactic(auto)]
 
 mod cover;
-mod fault;
-mod making;
 mod member;
 
-pub use cover::Cover;
-pub use fault::CoverFault;
-pub use making::cover_of;
+pub use cover::{Cover, cover_of};
 pub use member::CoverMember;
+pub use reaching_layer::CoverFault;
 
 #[cfg(test)]
 mod tests;

@@ -1,26 +1,46 @@
 //! One isotopologue of a layer.
 
+use element_table::Table;
+use formula_text::Formula;
+use isotopologue_text::{isotopologue_mass, isotopologue_text};
 use multinomial_bounds::Enclosure;
+use reaching_layer::ReachingLayer;
+use std::alloc::{AllocError, Global};
 use std::marker::Model;
 
 /// One isotopologue of a layer, as it is printed.
 #[derive(Debug, Drop)]
 pub struct CoverMember {
-    pub(crate) text: Vec<u8>,
-    pub(crate) mass: u64,
-    pub(crate) enclosure: Enclosure,
+    counts: Vec<u32>,
+    text: Vec<u8>,
+    mass: u64,
+    enclosure: Enclosure,
 }
 
 impl Model for CoverMember {
-    ghost use Rattle.cover_certificate.specs.Covers.{MemberEntry};
+    ghost use Rattle.cover_certificate.specs.FormulaCovers.{MemberEntry};
 
     ghost Value = { MemberEntry };
 
-    ghost view = { λ m. record { text = m.text.items; mass = m.mass; lo = m.enclosure.lo; hi = m.enclosure.hi } };
+    ghost view = { λ m. record {
+      counts = m.counts.items;
+      text = m.text.items;
+      mass = m.mass;
+      lo = m.enclosure.lo;
+      hi = m.enclosure.hi;
+    } };
 }
 
 impl CoverMember {
     ghost use Rattle.std.specs.Prelude.{◌≡◌};
+
+    /// The counts of its isotopes: of each element of the formula's items without a label, in Hill order,
+    /// those of its isotopes that occur, by rising mass number.
+    pub fn counts(&self) -> &[u32]
+        ensures { result.now ≡ self.now.counts }
+    {
+        &self.counts
+    }
 
     /// Its isotopes with their counts, as `[12C]5[13C]`; `-` where every atom of the formula has a label.
     pub fn text(&self) -> &[u8]
@@ -43,4 +63,37 @@ impl CoverMember {
     {
         self.enclosure
     }
+}
+
+ghost use Rattle.std.specs.Prelude.{◌≡◌, All, IfOk, map};
+ghost use Rattle.multinomial_bounds.specs.Isotopologue.{IsIsotopologue};
+ghost use Rattle.formula_text.specs.Masses.{HasItems};
+ghost use Rattle.isotopologue_text.specs.Isotopologues.{formula_elements, IsIsotopologueOf};
+ghost use Rattle.cover_certificate.specs.FormulaCovers.{member_entry};
+
+/// The members of the reaching layer of a formula's elements, with their texts and masses.
+pub(crate) fn members_of(
+    alloc: Global,
+    table: &Table,
+    formula: &Formula,
+    layer: &ReachingLayer,
+) -> Result<Vec<CoverMember>, AllocError>
+    requires known { HasItems table.now formula.now }
+    requires isotopologues { All (λ m. IsIsotopologue (formula_elements table.now formula.now) m.counts) layer.now.members }
+    ensures members { IfOk result (λ members.
+        members.items ≡ map (member_entry table.now formula.now) layer.now.members) }
+    ensures of_formula { IfOk result (λ members.
+        All (λ m. IsIsotopologueOf table.now formula.now m.counts) members.items) }
+{
+    let mut members = Vec::new(alloc);
+    for place in 0..layer.len() {
+        let counts = layer.counts(place);
+        members.push(CoverMember {
+            counts: counts.to_vec(alloc)?,
+            text: isotopologue_text(alloc, table, formula, counts)?,
+            mass: isotopologue_mass(table, formula, counts),
+            enclosure: layer.enclosure(place),
+        })?;
+    }
+    Ok(members)
 }

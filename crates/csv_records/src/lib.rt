@@ -5,19 +5,20 @@
 //!
 //! A [`Records`] is seen by contracts as the list of its records, each the list of its fields without the
 //! blanks at both ends. The crate stands on `csv`. The layer above reads the bytes of a file by
-//! [`Records::read`], and takes each field by its record and column.
+//! [`Records::read`], tests its header by [`Records::has_header`], and takes each field by its record and
+//! column, both counted from 0.
 #![tactic(auto)]
 
 ghost use Rattle.std.specs.Prelude.{◌≡◌, ◌<◌, ◌≤◌, ◌==◌, [], IfOk, length, map, slice_index_or};
 ghost use Rattle.std.specs.List.{prefix_len, suffix_len};
 ghost use Rattle.csv.specs.Reading.{default_config, records, strip_bom};
 ghost use Rattle.csv.specs.Records.{fields_of};
-ghost use Rattle.csv_records.specs.FileRecords.{file_records, is_blank, trimmed_field};
+ghost use Rattle.csv_records.specs.FileRecords.{IsTrimmed, file_records, has_header, is_blank, trimmed_field};
 
 #[cfg(test)]
 mod tests;
 
-use csv::{ByteRecord, ReaderBuilder};
+use csv::{ByteRecord, ErrorKind, ReaderBuilder};
 use std::alloc::{AllocError, Global};
 use std::marker::Model;
 
@@ -62,7 +63,22 @@ impl Records {
         self.rows.is_empty()
     }
 
-    /// How many fields a record has.
+    /// Whether the first record is exactly these fields; false where there is no record.
+    pub fn has_header(&self, names: &[&[u8]]) -> bool
+        ensures { result ≡ has_header (map (λ name. name.now) names.now) self.now }
+    {
+        if self.is_empty() || self.field_count(0) != names.len() {
+            return false;
+        }
+        for (column, name) in names.iter().enumerate() {
+            if self.field(0, column) != *name {
+                return false;
+            }
+        }
+        true
+    }
+
+    /// How many fields a record has. Records are counted from 0.
     pub fn field_count(&self, row: usize) -> usize
         requires { row < length self.now }
         ensures { result ≡ length (slice_index_or self.now row []) }
@@ -70,7 +86,7 @@ impl Records {
         self.rows[row].len()
     }
 
-    /// A field of a record.
+    /// A field of a record, without the blanks at both ends. Records and columns are counted from 0.
     pub fn field(&self, row: usize, column: usize) -> &[u8]
         requires row { row < length self.now }
         requires column { column < length (slice_index_or self.now row []) }
@@ -86,7 +102,8 @@ impl Records {
 /// A field without the spaces and tabs at both ends.
 #[tactic(auto, unfolding(crate::specs::FileRecords::trimmed_field))]
 fn trimmed_field(field: &[u8]) -> &[u8]
-    ensures { result.now ≡ trimmed_field field.now }
+    ensures value { result.now ≡ trimmed_field field.now }
+    ensures meaning { IsTrimmed field.now result.now }
 {
     let rest = &field[blanks_in_front(field)..];
     &rest[..rest.len() - blanks_at_end(rest)]
@@ -119,7 +136,7 @@ fn is_blank(byte: u8) -> bool
     byte == b' ' || byte == b'\t'
 }
 
-/// The rows of a file as the crate `csv` reads them, without a byte order mark in front.
+/// The records of a file as the crate `csv` reads them, untrimmed, without a byte order mark in front.
 fn rows_of(alloc: Global, bytes: &[u8]) -> Result<Vec<ByteRecord>, AllocError>
     ensures { IfOk result (λ rows. map fields_of rows.items ≡ records default_config (strip_bom bytes.now)) }
 {
@@ -129,12 +146,15 @@ fn rows_of(alloc: Global, bytes: &[u8]) -> Result<Vec<ByteRecord>, AllocError>
         .from_reader(alloc, bytes);
     let mut rows = Vec::new(alloc);
     for row in reader.into_byte_records() {
-        // Over bytes in memory, with records of any length, no other error than want of memory
-        // can come.
-        let Ok(row) = row else {
-            return Err(AllocError);
-        };
-        rows.push(row)?;
+        match row {
+            Ok(row) => rows.push(row)?,
+            Err(fault) => match fault.into_kind() {
+                ErrorKind::OutOfMemory | ErrorKind::Io(_) => return Err(AllocError),
+                // A record of another length is no fault of a flexible reader, fields of bytes need
+                // be no text, and nothing is read into other types.
+                _ => unreachable!(),
+            },
+        }
     }
     Ok(rows)
 }

@@ -1,6 +1,7 @@
-pub mod Finds
-pub mod Order
-pub mod Boxes
-pub mod Prefixes
-pub mod Rests
-pub mod Givens
+pub mod FindAndFilter
+pub mod CountListOrder
+pub mod FirstOfBox
+pub mod SearchSteps
+pub mod FirstOfSlice
+pub mod NextGiven
+pub mod EachListOnce

@@ -3,12 +3,13 @@ use Rattle.std.specs.Prelude.{ℕ, ◌-◌, ◌+◌, ◌≤◌, Bool, List, [], 
 use Rattle.std.specs.List.{flat_map, range_with_len}
 use Rattle.std.specs.Ordering.{is_lt, nat_cmp}
 use Rattle.std.specs.Cmp.Lexicographic.{slice_cmp}
-use Rattle.decompose.specs.declared.bounds.Limit.{Limit}
+use Rattle.decompose.specs.declared.limits.Limit.{Limit}
+use Rattle.decompose.specs.declared.limits.TheConstants.{MAX_COUNT}
 
 -- a limit of a symbol: it goes from low to high, which is at most 10,000 atoms
 pub record IsLimit (limit : Limit) : Type 0 where
   pub ordered : limit.low ≤ limit.high
-  pub bounded : limit.high ≤ 10_000
+  pub bounded : limit.high ≤ MAX_COUNT
 
 -- a count list of the box: it has one count for each limit, and each count is within its limit
 abbrev pub IsInBox : List Limit → List ℕ → Type 0

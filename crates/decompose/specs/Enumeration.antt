@@ -1,9 +1,9 @@
 -- The count lists of a window of mass, and an enumeration of them.
-use Rattle.std.specs.Prelude.{ℕ, ◌≡◌, ◌≤◌, Bool, ◌&&◌, nat_le, List, Option, Some, None, filter, if◌then◌else◌, length, All, IfSome}
+use Rattle.std.specs.Prelude.{ℕ, Bool, ◌&&◌, nat_le, List, Option, Some, None, filter}
 use Rattle.decompose.specs.Masses.{mass_of}
-use Rattle.decompose.specs.CountLists.{IsLimit, IsInBox, box_of, comes_after}
-use Rattle.decompose.specs.declared.bounds.Limit.{Limit}
-use Rattle.decompose.specs.declared.bounds.Window.{Window}
+use Rattle.decompose.specs.CountLists.{box_of, comes_after}
+use Rattle.decompose.specs.declared.limits.Limit.{Limit}
+use Rattle.mass_scaling.specs.declared.windows.Window.{Window}
 
 -- whether a mass is in the window, both ends included
 abbrev pub is_within : Window → ℕ → Bool
@@ -14,8 +14,8 @@ unfoldable pub vectors : List ℕ → List Limit → Window → List (List ℕ)
 vectors masses limits window = filter (λ cs. is_within window (mass_of masses cs)) (box_of limits)
 
 -- those of a list of count lists that come after c in lexicographic order
-unfoldable pub after : List (List ℕ) → List ℕ → List (List ℕ)
-after list c = filter (λ cs. comes_after c cs) list
+unfoldable pub lists_after : List (List ℕ) → List ℕ → List (List ℕ)
+lists_after list c = filter (λ cs. comes_after c cs) list
 
 -- an enumeration of the count lists of a window: over which masses, limits and window it goes, and
 -- the list up to which it has come, if it has begun
@@ -28,22 +28,8 @@ pub record Enumeration : Type 0 where
 -- those that come after the list given last, or all where none was given
 abbrev pub after_given : List (List ℕ) → Option (List ℕ) → List (List ℕ)
 after_given list None = list
-after_given list (Some c) = after list c
+after_given list (Some c) = lists_after list c
 
 -- the count lists that an enumeration has left
 unfoldable pub left : Enumeration → List (List ℕ)
 left e = after_given (vectors e.masses e.limits e.window) e.given
-
--- the enumeration that has given this list last, or none yet
-abbrev pub enumeration : List ℕ → List Limit → Window → Bool → List ℕ → Enumeration
-enumeration masses limits window has_given last =
-    record { masses = masses; limits = limits; window = window; given = if has_given then Some last else None }
-
--- what holds of each enumeration: it has a limit for each mass, its window begins above 0, and the
--- list given last is one of the box
-pub record IsEnumeration (e : Enumeration) : Type 0 where
-  pub one_limit_each : length e.limits ≡ length e.masses
-  pub limits : All IsLimit e.limits
-  pub above_zero : 1 ≤ e.window.lo
-  pub not_empty : e.window.lo ≤ e.window.hi
-  pub given : IfSome e.given (IsInBox e.limits)

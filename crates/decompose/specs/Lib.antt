@@ -1,3 +1,4 @@
+pub use Rattle.mass_scaling.specs.Windows
 pub mod Masses
 pub mod CountLists
 pub mod Enumeration

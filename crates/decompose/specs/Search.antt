@@ -1,9 +1,24 @@
--- What the search for the next count list looks for.
-use Rattle.std.specs.Prelude.{ℕ, Bool, true, ◌&&◌, List, Option, Some, None}
+-- For proofs alone: how an enumeration is kept, and what the search for its next count list looks for.
+use Rattle.std.specs.Prelude.{ℕ, ◌≡◌, Bool, true, ◌&&◌, if◌then◌else◌, List, length, All, Option, Some, None, IfSome}
+use Rattle.mass_scaling.specs.declared.windows.Window.{Window}
+use Rattle.mass_scaling.specs.Windows.{IsWindow}
 use Rattle.decompose.specs.Masses.{mass_of}
-use Rattle.decompose.specs.CountLists.{comes_after}
-use Rattle.decompose.specs.Enumeration.{is_within}
-use Rattle.decompose.specs.declared.bounds.Window.{Window}
+use Rattle.decompose.specs.CountLists.{IsLimit, IsInBox, comes_after}
+use Rattle.decompose.specs.Enumeration.{Enumeration, is_within}
+use Rattle.decompose.specs.declared.limits.Limit.{Limit}
+
+-- the enumeration that has given this list last, or none yet
+abbrev pub enumeration : List ℕ → List Limit → Window → Bool → List ℕ → Enumeration
+enumeration masses limits window has_given last =
+    record { masses = masses; limits = limits; window = window; given = if has_given then Some last else None }
+
+-- what holds of each enumeration: it has a limit for each mass, its window is one, and the list given last is
+-- one of the box
+pub record IsEnumeration (e : Enumeration) : Type 0 where
+  pub one_limit_each : length e.limits ≡ length e.masses
+  pub limits : All IsLimit e.limits
+  pub window : IsWindow e.window
+  pub given : IfSome e.given (IsInBox e.limits)
 
 -- whether a count list comes after the one given last, if there is one
 abbrev pub follows : Option (List ℕ) → List ℕ → Bool

@@ -1,3 +1,4 @@
+//! Counts of atoms, one for each symbol of an alphabet.
 ghost use Rattle.std.specs.Prelude.{◌≡◌, IfOk, replicate};
 
 use std::alloc::{AllocError, Global};

@@ -1,17 +1,20 @@
-ghost use Rattle.std.specs.Prelude.{◌≡◌, ◌≤◌, ◌↔◌, [], ◌∷◌, length, All, not, IsTrue, IfOk, OnOk, IsErrOf, Some, None, MatchBool};
+//! The enumeration of the count lists of a window.
+ghost use Rattle.std.specs.Prelude.{◌≡◌, ◌↔◌, ℕ, List, [], ◌∷◌, length, All, AllPairs, Contains, not, IsTrue, IfOk, OnOk, IsErrOf, Some, None, MatchBool};
 ghost use Rattle.std.specs.Bool.{OnTrue, OnFalse};
 ghost use Rattle.std.specs.List.{find};
 ghost use Rattle.std.specs.Option.{option_copied};
 ghost use Rattle.decompose.specs.Masses.{mass_of};
-ghost use Rattle.decompose.specs.CountLists.{IsLimit, IsInBox, box_of};
-ghost use Rattle.decompose.specs.Enumeration.{vectors, after, left, is_within};
+ghost use Rattle.decompose.specs.CountLists.{IsLimit, IsInBox, box_of, comes_after};
+ghost use Rattle.decompose.specs.Enumeration.{vectors, lists_after, left, is_within};
 ghost use Rattle.decompose.specs.Search.{is_left};
+ghost use Rattle.mass_scaling.specs.Windows.{IsWindow};
 
-use crate::bounds::{Limit, Window};
 use crate::count_list::Counts;
 use crate::faults::ResumeFault;
+use crate::limits::Limit;
 use crate::mass_tables::Tables;
 use crate::search::find_next;
+use mass_scaling::Window;
 use outside_ports::Steps;
 use std::alloc::{AllocError, Global};
 use std::marker::Model;
@@ -31,7 +34,8 @@ pub struct Decomps<'t> {
 
 impl<'t> Model for Decomps<'t> {
     ghost use Rattle.std.specs.Prelude.{◌≡◌, length};
-    ghost use Rattle.decompose.specs.Enumeration.{Enumeration, IsEnumeration, enumeration};
+    ghost use Rattle.decompose.specs.Enumeration.{Enumeration};
+    ghost use Rattle.decompose.specs.Search.{IsEnumeration, enumeration};
 
     ghost Value = { Enumeration };
 
@@ -52,7 +56,8 @@ fn is_in_box(limits: &[Limit], counts: &[u32]) -> bool
 
 impl<'t> Decomps<'t> {
     /// An enumeration from its start: over the masses of the tables, with a limit for each of them
-    /// and a window that begins above 0.
+    /// and a window that begins above 0 and isn't empty. It has left each list of counts within the limits whose
+    /// mass is in the window once, in lexicographic order.
     pub fn start(
         alloc: Global,
         tables: &'t Tables,
@@ -61,11 +66,13 @@ impl<'t> Decomps<'t> {
     ) -> Result<Decomps<'t>, AllocError>
         requires one_limit_each { length limits.now ≡ length tables.now }
         requires limits { All IsLimit limits.now }
-        requires above_zero { 1 ≤ window.lo }
-        requires not_empty { window.lo ≤ window.hi }
+        requires window { IsWindow window }
         ensures start { IfOk result (λ d.
             d ≡ record { masses = tables.now; limits = limits.now; window = window; given = None }) }
         ensures all_left { IfOk result (λ d. left d ≡ vectors tables.now limits.now window) }
+        ensures each { (cs : List ℕ) → Contains (vectors tables.now limits.now window) cs
+            ↔ (IsInBox limits.now cs × IsTrue (is_within window (mass_of tables.now cs))) }
+        ensures rising { AllPairs (λ a b. IsTrue (comes_after a b)) (vectors tables.now limits.now window) }
     {
         let limits = limits.to_vec(alloc)?;
         let last = vec![in alloc; 0; limits.len()]?;
@@ -87,23 +94,22 @@ impl<'t> Decomps<'t> {
         tables: &'t Tables,
         limits: &[Limit],
         window: Window,
-        token: &Counts,
+        after: &Counts,
     ) -> Result<Decomps<'t>, ResumeFault>
         requires one_limit_each { length limits.now ≡ length tables.now }
         requires limits { All IsLimit limits.now }
-        requires above_zero { 1 ≤ window.lo }
-        requires not_empty { window.lo ≤ window.hi }
+        requires window { IsWindow window }
         ensures resumed { IfOk result (λ d.
-            d ≡ record { masses = tables.now; limits = limits.now; window = window; given = Some token.now }) }
+            d ≡ record { masses = tables.now; limits = limits.now; window = window; given = Some after.now }) }
         ensures rest_left { IfOk result (λ d.
-            left d ≡ after (vectors tables.now limits.now window) token.now) }
-        ensures in_box { OnOk result (IsInBox limits.now token.now) }
-        ensures not_in_box { IsErrOf result ResumeFault.NotInBox ↔ (¬ IsInBox limits.now token.now) }
+            left d ≡ lists_after (vectors tables.now limits.now window) after.now) }
+        ensures in_box { OnOk result (IsInBox limits.now after.now) }
+        ensures not_in_box { IsErrOf result ResumeFault.NotInBox ↔ (¬ IsInBox limits.now after.now) }
     {
-        if !is_in_box(limits, token.counts()) {
+        if !is_in_box(limits, after.counts()) {
             return Err(ResumeFault::NotInBox);
         }
-        let last = token.counts().to_vec(alloc)?;
+        let last = after.counts().to_vec(alloc)?;
         let limits = limits.to_vec(alloc)?;
         Ok(Decomps {
             tables,
@@ -163,7 +169,6 @@ impl<'t> Decomps<'t> {
         ensures unchanged { OnFalse result (self.new ≡ self.old) }
         ensures out_unchanged { OnFalse result (out.new ≡ out.old) }
         ensures length { length out.new ≡ length out.old }
-        ensures steps_unchanged { steps.new ≡ steps.old }
     {
         if !self.find_left(&mut out.counts) {
             return false;

@@ -1,12 +1,22 @@
+//! The masses of an alphabet, as the search takes them.
 ghost use Rattle.std.specs.Prelude.{◌≡◌, ◌<◌, ◌≤◌, ◌↔◌, IfOk, OnOk, IsErrOf};
-ghost use Rattle.decompose.specs.Masses.{AreMasses, base_of, heaviest_base};
+ghost use Rattle.decompose.specs.Masses.{AreMasses, base_of};
 
-use crate::faults::ScaleFault;
+use mass_scaling::ScaleFault;
 use std::alloc::{AllocError, Global};
 use std::marker::Model;
 
-/// The greatest mass that the last symbol of an alphabet may have: 400 Da, in 10^-12 Da.
-const HEAVIEST_BASE: u64 = 400_000_000_000_000;
+/// The most masses of an alphabet.
+pub const MAX_MASSES: usize = 20;
+
+/// The least mass of a symbol: 0.5 Da, in 10^-12 Da.
+pub const MIN_MASS: u64 = 500_000_000_000;
+
+/// The greatest mass of a symbol: 1,000,000 Da, in 10^-12 Da.
+pub const MAX_MASS: u64 = 1_000_000_000_000_000_000;
+
+/// The greatest mass of the last symbol of an alphabet that there are tables for: 400 Da, in 10^-12 Da.
+pub const MAX_BASE_MASS: u64 = 400_000_000_000_000;
 
 /// What the search for count lists knows of an alphabet. It is seen as the masses of its symbols,
 /// in 10^-12 Da, falling or equal.
@@ -34,10 +44,10 @@ impl Tables {
     pub fn of(alloc: Global, masses: &[u64]) -> Result<Tables, ScaleFault>
         requires { AreMasses masses.now }
         ensures masses { IfOk result (λ t. t ≡ masses.now) }
-        ensures light_enough { OnOk result (base_of masses.now ≤ heaviest_base) }
-        ensures too_heavy { IsErrOf result ScaleFault.BaseTooHeavy ↔ (heaviest_base < base_of masses.now) }
+        ensures light_enough { OnOk result (base_of masses.now ≤ MAX_BASE_MASS) }
+        ensures too_heavy { IsErrOf result ScaleFault.BaseTooHeavy ↔ (MAX_BASE_MASS < base_of masses.now) }
     {
-        if masses[masses.len() - 1] > HEAVIEST_BASE {
+        if masses[masses.len() - 1] > MAX_BASE_MASS {
             return Err(ScaleFault::BaseTooHeavy);
         }
         let masses = masses.to_vec(alloc)?;

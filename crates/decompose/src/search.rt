@@ -1,10 +1,12 @@
+//! The search for the next count list of a window.
 ghost use Rattle.std.specs.Prelude.{◌≡◌, ◌/◌, ◌<◌, length, min, All, IfSome, IsSomeAnd, Some, None, MatchBool, MatchOption, ◌∷◌};
 ghost use Rattle.std.specs.List.{find};
 ghost use Rattle.std.specs.Option.{option_copied};
 ghost use Rattle.decompose.specs.CountLists.{IsInBox, box_of};
 ghost use Rattle.decompose.specs.Search.{is_left};
 
-use crate::bounds::{Limit, Window};
+use crate::limits::Limit;
+use mass_scaling::Window;
 
 /// The first count to try, which is that of the list given last, if there is one, and what the
 /// counts after it then have to come after.
@@ -33,7 +35,7 @@ fn highest_count(mass: u64, limit: Limit, window: Window) -> u32
 ///
 /// A prefix whose own mass is above the window is not gone on with, and the last count is found by
 /// a division.
-pub fn find_next(
+pub(crate) fn find_next(
     masses: &[u64],
     limits: &[Limit],
     window: Window,

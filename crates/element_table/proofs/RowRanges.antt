@@ -1,14 +1,16 @@
 -- What a row that has been read says of its numbers.
-use Rattle.std.proofs.Common.{◌≡◌, ℕ, ◌≤◌, Bool, true, false, cond, nat_le, nat_lt, eqb, length, ◌==◌, ◌||◌, List, [], ◌∷◌, Option, Some, None, Result, Ok, Err, IfSome, codes, refl, ◌∙◌, subst, arith, if◌then◌else◌}
-use Rattle.std.specs.Option.{option_and_then, ok_or}
-use Rattle.std.specs.Result.{result_ok}
+use Rattle.std.proofs.Common.{◌≡◌, ℕ, ◌*◌, ◌/◌, ◌^◌, ◌≤◌, option_map, Bool, true, false, nat_le, eqb, length, List, [], ◌∷◌, Option, Some, None, Result, Ok, Err, codes, refl, ◌∙◌, subst, arith, if◌then◌else◌}
+use Rattle.std.specs.Option.{ok_or}
+use Rattle.std.proofs.Math.Nat.{div-mul-le_self, mul-le-mul_right}
 use Rattle.std.proofs.lemmas.Bool.{leb-true, ne_eqb, and_parts, and_left, and_right}
 use Rattle.std.proofs.lemmas.Slice.Eq.{bytes_eq-Decides}
-use Rattle.fixed_decimal.specs.Decimal.{read_decimal, whole_number, at_most, or_too_large, unless_at, decimal_fault, fine_place, decimal_value, number_of, digit_count}
-use Rattle.fixed_decimal.specs.declared.DecimalFault.TheVariants as fixed
+use Rattle.fixed_decimal.specs.Decimal.{decimal_within}
+use Rattle.fixed_decimal.proofs.NumbersInRange.{decimal_within-range, whole_within-range}
+use Rattle.reader_answers.specs.Answers.{or_fault, ◌>>=◌}
+use Rattle.element_table.specs.Limits.{full_abundance}
 use Rattle.element_table.specs.SymbolText.{is_capital, is_small, is_symbol}
-use Rattle.element_table.specs.TableRows.{Row, or_fault, ◌>>=◌, is_electron}
-use Rattle.element_table.specs.TableText.{Ranges, decimal_in, whole_in, from_at_least, numbers_of, row_of, electron_ranges, isotope_ranges}
+use Rattle.element_table.specs.TableRows.{Row, is_electron}
+use Rattle.element_table.specs.TableText.{Ranges, numbers_of, row_of, weight_within, electron_ranges, isotope_ranges}
 use Rattle.element_table.specs.declared.fault.TableFault.{TableFault}
 use Rattle.element_table.specs.declared.fault.TableFault.TheVariants as fault
 
@@ -22,104 +24,72 @@ pub record IsRowWithin (ranges : Ranges) (symbol : List ℕ) (row : Row) : Type 
   pub weight_to : row.weight ≤ ranges.weight_to
   pub valence_to : row.valence ≤ ranges.valence_to
 
-at_most-le : (limit m n : ℕ) → at_most limit m ≡ Some n → n ≤ limit
-at_most-le limit m n is = by (nat_le m limit) refl
+-- a weight that has been read is within its limit
+pub weight_within-range : (decimals limit : ℕ) (text : List ℕ) (w : ℕ) → weight_within decimals limit text ≡ Some w
+    → w ≤ limit
+weight_within-range decimals limit text w is =
+    by (decimal_within decimals 0 (limit / (full_abundance / 10 ^ decimals)) text) refl is
   where
-    by : (b : Bool) → nat_le m limit ≡ b → n ≤ limit
-    by true within =
-        let same : Some m ≡ Some n = rw within at is in
-        let number : m ≡ n = cc in
-        omega (arith, leb-true m limit within)
-    by false above =
-        let none : None ≡ Some n = rw above at is in
-        cc
-
-whole_number-le : (limit : ℕ) (text : List ℕ) (n : ℕ) → whole_number limit text ≡ Some n → n ≤ limit
-unfolding whole_number
-whole_number-le limit text n is = by ((length text == 0) || nat_lt (digit_count text) (length text)) is
-  where
-    by : (b : Bool) → cond b None (at_most limit (number_of text)) ≡ Some n → n ≤ limit
-    by true none = cc
-    by false value = at_most-le limit _ n value
-
-read_decimal-le : (decimals limit : ℕ) (text : List ℕ) (n : ℕ) → result_ok (read_decimal decimals limit text) ≡ Some n → n ≤ limit
-unfolding read_decimal
-read_decimal-le decimals limit text n is = by (decimal_fault text) (fine_place decimals text) (at_most limit (decimal_value decimals text)) refl is
-  where
-    by : (a b o : Option ℕ) → at_most limit (decimal_value decimals text) ≡ o → result_ok (unless_at fixed.NotDecimal a (unless_at fixed.TooFine b (or_too_large o))) ≡ Some n → n ≤ limit
-    by (Some place) b o value is = cc
-    by None (Some place) o value is = cc
-    by None None None value is = cc
-    by None None (Some m) value is =
-        let same : Some m ≡ Some n = is in
-        at_most-le limit _ n (value ∙ same)
-
--- a number that is at least a lower limit
-from_at_least-ge : (low : ℕ) (o : Option ℕ) (n : ℕ) → option_and_then (from_at_least low) o ≡ Some n → (low ≤ n) × (o ≡ Some n)
-from_at_least-ge low None n is = cc
-from_at_least-ge low (Some m) n is = by (nat_le low m) refl
-  where
-    by : (b : Bool) → nat_le low m ≡ b → (low ≤ n) × (Some m ≡ Some n)
-    by true within =
-        let same : Some m ≡ Some n = rw within at is in
-        let number : m ≡ n = cc in
-        (omega (arith, leb-true low m within), same)
-    by false below =
-        let none : None ≡ Some n = rw below at is in
-        cc
-
-pub whole_in-within : (low high : ℕ) (text : List ℕ) (n : ℕ) → whole_in low high text ≡ Some n → (low ≤ n) × (n ≤ high)
-whole_in-within low high text n is =
-    let least = from_at_least-ge low (whole_number high text) n is in
-    (least.0, whole_number-le high text n least.1)
-
-pub decimal_in-within : (decimals low high : ℕ) (text : List ℕ) (n : ℕ) → decimal_in decimals low high text ≡ Some n → (low ≤ n) × (n ≤ high)
-decimal_in-within decimals low high text n is =
-    let least = from_at_least-ge low (result_ok (read_decimal decimals high text)) n is in
-    (least.0, read_decimal-le decimals high text n least.1)
-
--- what a clause on a number that may be there says
-pub IfSome-from : (o : Option ℕ) (P : ℕ → Type 0) → ((n : ℕ) → o ≡ Some n → P n) → IfSome o P
-IfSome-from None P holds = tt
-IfSome-from (Some n) P holds = holds n refl
+    by : (o : Option ℕ) → decimal_within decimals 0 (limit / (full_abundance / 10 ^ decimals)) text ≡ o
+        → option_map (λ units. units * (full_abundance / 10 ^ decimals)) o ≡ Some w → w ≤ limit
+    by None read none = cc
+    by (Some n) read some =
+        let within = (decimal_within-range _ _ _ _ n read).1 in
+        let value : n * (full_abundance / 10 ^ decimals) ≡ w = cc in
+        omega (
+          arith,
+          value,
+          mul-le-mul_right (full_abundance / 10 ^ decimals) within,
+          div-mul-le_self limit
+              ((full_abundance / 10 ^ decimals)),
+        )
 
 -- the number that a step of a reading goes on with
-read_on : {A : Type 0} (f : TableFault) (o : Option ℕ) (next : ℕ → Result A TableFault) (x : A) → (or_fault f o >>= next) ≡ Ok x → (n : ℕ) × (o ≡ Some n) × (next n ≡ Ok x)
+read_on : {A : Type 0} (f : TableFault) (o : Option ℕ) (next : ℕ → Result A TableFault) (x : A)
+    → (or_fault f o >>= next) ≡ Ok x → (n : ℕ) × (o ≡ Some n) × (next n ≡ Ok x)
 read_on f None next x is = cc
 read_on f (Some n) next x is = (n, refl, is)
 
 ok_same : (x y : Row) → ◌≡◌ {A = Result Row TableFault} (Ok x) (Ok y) → x ≡ y
 ok_same x y is = cc
 
-pub numbers_of-within : (place : ℕ) (ranges : Ranges) (symbol number mass abundance valence : List ℕ) (row : Row)
-    → numbers_of place ranges symbol number mass abundance valence ≡ Ok row → IsRowWithin ranges symbol row
+pub numbers_of-within : (decimals record_number : ℕ) (ranges : Ranges) (symbol number mass abundance valence : List ℕ) (row : Row)
+    → numbers_of decimals record_number ranges symbol number mass abundance valence ≡ Ok row
+    → IsRowWithin ranges symbol row
 unfolding numbers_of
-numbers_of-within place ranges symbol number mass abundance valence row is =
+numbers_of-within decimals record_number ranges symbol number mass abundance valence row is =
     let n = read_on _ _ _ row is in
     let m = read_on _ _ _ row n.2 in
     let w = read_on _ _ _ row m.2 in
     let v = read_on _ _ _ row w.2 in
-    let same : record { symbol = symbol; number = n.0; mass = m.0; weight = w.0; valence = v.0 } ≡ row = ok_same _ _ v.2 in
+    let same : record { symbol = symbol; number = n.0; mass = m.0; weight = w.0; valence = v.0 } ≡ row =
+    ok_same _ _ v.2 in
     subst (IsRowWithin ranges symbol) same (record {
       symbol_is = refl;
-      number_from = (whole_in-within _ _ number n.0 n.1).0;
-      number_to = (whole_in-within _ _ number n.0 n.1).1;
-      mass_from = (decimal_in-within _ _ _ mass m.0 m.1).0;
-      mass_to = (decimal_in-within _ _ _ mass m.0 m.1).1;
-      weight_to = (decimal_in-within _ _ _ abundance w.0 w.1).1;
-      valence_to = (whole_in-within _ _ valence v.0 v.1).1;
+      number_from = (whole_within-range _ _ number n.0 n.1).0;
+      number_to = (whole_within-range _ _ number n.0 n.1).1;
+      mass_from = (decimal_within-range _ _ _ mass m.0 m.1).0;
+      mass_to = (decimal_within-range _ _ _ mass m.0 m.1).1;
+      weight_to = weight_within-range _ _ abundance w.0 w.1;
+      valence_to = (whole_within-range _ _ valence v.0 v.1).1;
     })
 
-module _ (place : ℕ) (symbol number mass abundance valence : List ℕ) where
-  pub row_of-electron : is_electron symbol ≡ true → row_of place (symbol ∷ number ∷ mass ∷ abundance ∷ valence ∷ []) ≡ numbers_of place electron_ranges symbol number mass abundance valence
+module _ (decimals record_number : ℕ) (symbol number mass abundance valence : List ℕ) where
+  pub row_of-electron : is_electron symbol ≡ true
+      → row_of decimals record_number (symbol ∷ number ∷ mass ∷ abundance ∷ valence ∷ [])
+      ≡ numbers_of decimals record_number electron_ranges symbol number mass abundance valence
   unfolding row_of
   row_of-electron electron = rw electron refl
 
-  pub row_of-isotope : is_electron symbol ≡ false → is_symbol symbol ≡ true → row_of place (symbol ∷ number ∷ mass ∷ abundance ∷ valence ∷ []) ≡ numbers_of place isotope_ranges symbol number mass abundance valence
+  pub row_of-isotope : is_electron symbol ≡ false → is_symbol symbol ≡ true
+      → row_of decimals record_number (symbol ∷ number ∷ mass ∷ abundance ∷ valence ∷ [])
+      ≡ numbers_of decimals record_number isotope_ranges symbol number mass abundance valence
   unfolding row_of
   row_of-isotope other is = rw (other, is) refl
 
-  pub row_of-no_symbol : is_electron symbol ≡ false → is_symbol symbol ≡ false → row_of place (symbol ∷ number ∷ mass ∷ abundance ∷ valence ∷ []) ≡ Err (fault.Symbol place)
+  pub row_of-no_symbol : is_electron symbol ≡ false → is_symbol symbol ≡ false
+      → row_of decimals record_number (symbol ∷ number ∷ mass ∷ abundance ∷ valence ∷ [])
+      ≡ Err (fault.Symbol record_number)
   unfolding row_of
   row_of-no_symbol other none = rw (other, none) refl
 
@@ -145,7 +115,8 @@ electron_row symbol row electron within =
     λ i. record { symbol = spelled i; number = number i; mass = row.mass; weight = weight i; valence = valence i }
 
 -- the symbol of a text, or else a fault
-pub symbol_ok : (o : Option (List ℕ)) (text s : List ℕ) (f : TableFault) → o ≡ (if is_symbol text then Some text else None) → Ok s ≡ ok_or o f
+pub symbol_ok : (o : Option (List ℕ)) (text s : List ℕ) (f : TableFault)
+    → o ≡ (if is_symbol text then Some text else None) → Ok s ≡ ok_or o f
     → (is_symbol text ≡ true) × (s ≡ text)
 symbol_ok o text s f is read = by (is_symbol text) refl
   where
@@ -160,7 +131,8 @@ symbol_ok o text s f is read = by (is_symbol text) refl
         let err : ◌≡◌ {A = Result (List ℕ) TableFault} (Ok s) (Err f) = rw nothing at read in
         cc
 
-pub symbol_err : (o : Option (List ℕ)) (text : List ℕ) (f e : TableFault) → o ≡ (if is_symbol text then Some text else None) → Err e ≡ ok_or o f
+pub symbol_err : (o : Option (List ℕ)) (text : List ℕ) (f e : TableFault)
+    → o ≡ (if is_symbol text then Some text else None) → Err e ≡ ok_or o f
     → (is_symbol text ≡ false) × (e ≡ f)
 symbol_err o text f e is read = by (is_symbol text) refl
   where
@@ -176,7 +148,8 @@ symbol_err o text f e is read = by (is_symbol text) refl
         (none, same)
 
 -- a record of another number of fields
-pub row_of-count : (place : ℕ) (fields : List (List ℕ)) → (length fields ≡ 5 → ⊥) → row_of place fields ≡ Err (fault.FieldCount place)
+pub row_of-count : (decimals record_number : ℕ) (fields : List (List ℕ)) → (length fields ≡ 5 → ⊥)
+    → row_of decimals record_number fields ≡ Err (fault.FieldCount record_number)
 unfolding row_of
-row_of-count place (symbol ∷ number ∷ mass ∷ abundance ∷ valence ∷ []) other = absurd (other refl)
-row_of-count place fields other = refl
+row_of-count decimals record_number (symbol ∷ number ∷ mass ∷ abundance ∷ valence ∷ []) other = absurd (other refl)
+row_of-count decimals record_number fields other = refl

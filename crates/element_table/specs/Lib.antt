@@ -1,7 +1,17 @@
+pub use Rattle.reader_answers.specs.Answers
+pub use Rattle.reader_answers.specs.RecordRows
+pub use Rattle.sorted_lists.specs.SortedLists
+pub use Rattle.csv_records.specs.FileRecords
+pub use Rattle.fixed_decimal.specs.Decimal
+pub mod Limits
 pub mod SymbolText
 pub mod Elements
 pub mod SymbolLayout
+pub mod TableFaults
+pub mod RecordWords
 pub mod TableRows
 pub mod TableText
 pub mod Gathering
 pub mod ReadRow
+pub mod TracerFaults
+pub mod Tracers

@@ -1,4 +1,4 @@
--- How a symbol's letters are laid out: three places, with 0 behind the letters.
+-- For the model of symbols and proofs: how a symbol's letters are laid out in three places, with 0 behind the letters.
 use Rattle.std.specs.Prelude.{ℕ, ◌≡◌, ◌≤◌, List, [], ◌∷◌, length, slice_index_or, take, IsTrue}
 use Rattle.std.proofs.Common.{arith, ap, sym, ◌∙◌, length-take}
 use Rattle.element_table.specs.SymbolText.{is_symbol}
@@ -16,8 +16,10 @@ pub record HoldsSymbol (len : ℕ) (letters : List ℕ) : Type 0 where
   pub padded : letters ≡ letters_of (take len letters)
 
 -- the layout of the letters is the layout that they came from
-pub laid_out_again : (s : Inside) → HoldsSymbol s.len s.letters → record s { letters = letters_of (take s.len s.letters); len = length (take s.len s.letters) } ≡ s
+pub laid_out_again : (s : Inside) → HoldsSymbol s.len s.letters
+    → record s { letters = letters_of (take s.len s.letters); len = length (take s.len s.letters) } ≡ s
 laid_out_again s h =
     let len : length (take s.len s.letters) ≡ s.len = simp length-take (omega (arith, h.places, h.short)) in
     let places : letters_of (take s.len s.letters) ≡ s.letters = sym h.padded in
-    ap (λ (n : ℕ). record s { letters = letters_of (take s.len s.letters); len = n }) len ∙ ap (λ (l : List ℕ). record s { letters = l }) places
+    ap (λ (n : ℕ). record s { letters = letters_of (take s.len s.letters); len = n }) len
+    ∙ ap (λ (l : List ℕ). record s { letters = l }) places

@@ -1,29 +1,23 @@
 -- What the rows of a table file say together: the elements and the electron, or the first fault.
-use Rattle.std.specs.Prelude.{ℕ, ◌==◌, ◌&&◌, not, Bool, List, [], ◌∷◌, length, map, fold, filter, find, nat_lt, if◌then◌else◌, Option, Some, None, option_map, Result, Ok, Err, codes}
+use Rattle.std.specs.Prelude.{ℕ, ◌==◌, ◌&&◌, not, Bool, List, [], ◌∷◌, length, map, filter, find, nat_lt, if◌then◌else◌, Option, Some, None, option_map, Result, Ok, codes}
 use Rattle.std.specs.List.{list_any}
 use Rattle.std.specs.Str.{bytes_eq}
-use Rattle.element_table.specs.Elements.{ElementEntry, TableEntries, total_weight}
+use Rattle.reader_answers.specs.Answers.{or_fault, unless_fault, ◌>>=◌}
+use Rattle.sorted_lists.specs.SortedLists.{sorted_by}
+use Rattle.element_table.specs.Limits.{max_elements, max_isotopes}
+use Rattle.element_table.specs.Elements.{ElementEntry, TableEntries, reference_place, total_weight}
 use Rattle.element_table.specs.declared.element.Isotope.{Isotope}
 use Rattle.element_table.specs.declared.fault.TableFault.{TableFault}
 use Rattle.element_table.specs.declared.fault.TableFault.TheVariants as fault
 
--- what one record says: an isotope of an element, or the electron
+-- what one record says: an isotope of an element, or the electron. The mass is in 10^-12 Da, the weight in units of
+-- 10^-12.
 pub record Row : Type 0 where
   pub symbol : List ℕ
   pub number : ℕ
   pub mass : ℕ
   pub weight : ℕ
   pub valence : ℕ
-
--- what there is, or else this fault
-abbrev pub or_fault : {A : Type 0} → TableFault → Option A → Result A TableFault
-or_fault fault None = Err fault
-or_fault fault (Some x) = Ok x
-
-infixl 10 ◌>>=◌
-abbrev pub ◌>>=◌ : {A B : Type 0} → Result A TableFault → (A → Result B TableFault) → Result B TableFault
-(Ok x) >>= f = f x
-(Err e) >>= f = Err e
 
 -- whether a symbol's field is the electron's, `e-`
 abbrev pub is_electron : List ℕ → Bool
@@ -47,26 +41,20 @@ abbrev pub first_valence : ℕ → List Row → ℕ
 first_valence valence [] = valence
 first_valence valence (row ∷ rows) = row.valence
 
--- what is wrong with a row behind the earlier rows, if anything is
+-- what is wrong with a record's row behind the earlier rows, if anything is
 unfoldable pub fault_after : ℕ → List Row → Row → Option TableFault
-fault_after place earlier row =
+fault_after record_number earlier row =
     let same = rows_of row.symbol earlier in
-    if not (first_valence row.valence same == row.valence) then Some (fault.Valence place)
-    else (if list_any (λ other. other.number == row.number) same then Some (fault.Repeated place)
+    if not (first_valence row.valence same == row.valence) then Some (fault.Valence record_number)
+    else (if list_any (λ other. other.number == row.number) same then Some (fault.Repeated record_number)
     else (if is_electron row.symbol then None
-    else (if (length same == 0) && (length (first_symbols (isotope_rows earlier)) == 120) then Some (fault.TooManyElements place)
-    else (if length same == 16 then Some (fault.TooManyIsotopes place) else None))))
+    else (if (length same == 0) && (length (first_symbols (isotope_rows earlier)) == max_elements) then Some
+    (fault.TooManyElements record_number)
+    else (if length same == max_isotopes then Some (fault.TooManyIsotopes record_number) else None))))
 
--- the row, unless there is a fault
-abbrev pub unless_fault : Option TableFault → Row → Result Row TableFault
-unless_fault None row = Ok row
-unless_fault (Some fault) row = Err fault
-
--- an isotope among others by rising mass number
-abbrev pub insert_rising : List Isotope → Isotope → List Isotope
-insert_rising [] isotope = isotope ∷ []
-insert_rising (other ∷ others) isotope =
-    if nat_lt isotope.number other.number then isotope ∷ other ∷ others else other ∷ insert_rising others isotope
+-- whether an isotope is lighter by its mass number
+abbrev pub is_lighter : Isotope → Isotope → Bool
+is_lighter a b = nat_lt a.number b.number
 
 -- the isotope of a row
 abbrev pub isotope_of_row : Row → Isotope
@@ -74,11 +62,17 @@ isotope_of_row row = record { number = row.number; mass = row.mass; weight = row
 
 -- the isotopes of rows by rising mass number
 abbrev pub rising_isotopes : List Row → List Isotope
-rising_isotopes rows = fold insert_rising [] (map isotope_of_row rows)
+rising_isotopes rows = sorted_by is_lighter (map isotope_of_row rows)
+
+-- the element of this symbol, this valence and these isotopes, with its reference isotope by their weights
+abbrev pub element_with : List ℕ → ℕ → List Isotope → ElementEntry
+element_with symbol valence isotopes =
+    record { symbol = symbol; valence = valence; isotopes = isotopes; reference = reference_place isotopes }
 
 -- the element of this symbol
 abbrev pub entry_of : List Row → List ℕ → ElementEntry
-entry_of rows symbol = record { symbol = symbol; valence = first_valence 0 (rows_of symbol rows); isotopes = rising_isotopes (rows_of symbol rows) }
+entry_of rows symbol =
+    element_with symbol (first_valence 0 (rows_of symbol rows)) (rising_isotopes (rows_of symbol rows))
 
 -- the elements of the rows, in the order of their first rows
 abbrev pub elements_of : List Row → List ElementEntry
@@ -92,15 +86,15 @@ electron_of rows = option_map (λ row. row.mass) (find (λ row. is_electron row.
 abbrev pub weightless : List ElementEntry → Option ElementEntry
 weightless elements = find (λ e. total_weight e.isotopes == 0) elements
 
--- the table of an electron and elements, unless an element has no weight
-abbrev pub unless_weightless : ℕ → List ElementEntry → Option ElementEntry → Result TableEntries TableFault
-unless_weightless electron elements None = Ok (record { electron = electron; elements = elements })
-unless_weightless electron elements (Some e) = Err (fault.NoWeight e.symbol)
+-- the fault of the first element of which no isotope occurs
+abbrev pub weight_fault : List ElementEntry → Option TableFault
+weight_fault elements = option_map (λ e. fault.NoWeight e.symbol) (weightless elements)
 
--- the table of an electron, if there is one, and elements
+-- the table of an electron, if there is one, and elements, unless one has no weight
 abbrev pub table_from : Option ℕ → List ElementEntry → Result TableEntries TableFault
 table_from electron elements =
-    or_fault fault.NoElectron electron >>= λ mass. unless_weightless mass elements (weightless elements)
+    or_fault fault.NoElectron electron
+    >>= λ mass. unless_fault (weight_fault elements) (Ok (record { electron = mass; elements = elements }))
 
 -- the table of all rows
 abbrev pub table_of_rows : List Row → Result TableEntries TableFault

@@ -1,23 +1,24 @@
-ghost use Rattle.std.specs.Prelude.{◌≡◌, ℕ, ◌≤◌, [], None, All, map, length};
+//! What the records of a table file say together, gathered record by record.
+
+ghost use Rattle.std.specs.Prelude.{◌≡◌, ℕ, ◌≤◌, [], None, All, map, length, IfOk};
 ghost use Rattle.std.specs.Option.{option_copied};
 ghost use Rattle.std.specs.Str.{bytes_eq};
 ghost use Rattle.indexmap.specs.IndexMap.{keys, values};
-ghost use Rattle.element_table.specs.Elements.{IsElement};
+ghost use Rattle.element_table.specs.Elements.{IsElement, IsTable};
 ghost use Rattle.element_table.specs.TableRows.{table_from, weightless};
-ghost use Rattle.element_table.specs.TableText.{Reads};
-ghost use Rattle.element_table.specs.Gathering.{Changes, IsIsotopeRow, IsTableRow, AreElements, fault_in, row_entry, with_row, fault_among, with_isotope_of};
+ghost use Rattle.reader_answers.specs.Answers.{Gives, GivesAs, unless_fault};
+ghost use Rattle.element_table.specs.TableFaults.{is_memory};
+ghost use Rattle.element_table.specs.Gathering.{IsIsotopeRow, IsTableRow, AreElements, fault_in, row_entry, with_row, fault_among, with_isotope_of};
 
 use crate::element::{Element, Isotope};
 use crate::fault::TableFault;
+use crate::limits::MAX_ELEMENTS;
 use crate::row::TableRow;
 use crate::symbol::Symbol;
 use crate::table::Table;
 use indexmap::IndexMap;
 use std::alloc::Global;
 use std::marker::Model;
-
-/// At most so many elements of a table.
-const MAX_ELEMENTS: usize = 120;
 
 /// What the records read so far say: the electron's mass, and the elements by their symbols in the
 /// order of their first records.
@@ -49,15 +50,16 @@ impl Gathered {
         }
     }
 
-    /// Takes in the row of the record `place`.
-    pub(crate) fn add(&mut self, place: u64, row: TableRow) -> Result<(), TableFault>
+    /// Takes in the row of the record of this number.
+    pub(crate) fn add(&mut self, record_number: u64, row: TableRow) -> Result<(), TableFault>
         requires { IsTableRow row }
-        ensures { Changes (fault_in place self.old (row_entry row)) (with_row self.old (row_entry row)) result self.new }
+        ensures { GivesAs (λ _. self.new) is_memory result
+            (unless_fault (fault_in record_number self.old (row_entry row)) (Ok (with_row self.old (row_entry row)))) }
     {
         match row {
             TableRow::Electron { mass } => {
                 if self.electron.is_some() {
-                    return Err(TableFault::Repeated { row: place });
+                    return Err(TableFault::Repeated { row: record_number });
                 }
                 self.electron = Some(mass);
                 Ok(())
@@ -66,13 +68,14 @@ impl Gathered {
                 symbol,
                 valence,
                 isotope,
-            } => add_isotope(&mut self.elements, place, symbol, valence, isotope),
+            } => add_isotope(&mut self.elements, record_number, symbol, valence, isotope),
         }
     }
 
     /// The table of all rows.
     pub(crate) fn into_table(self, alloc: Global) -> Result<Table, TableFault>
-        ensures { Reads result (table_from self.electron self.elements) }
+        ensures table { Gives is_memory result (table_from self.electron self.elements) }
+        ensures within { IfOk result IsTable }
     {
         let Gathered { electron, elements } = self;
         let electron = electron.ok_or(TableFault::NoElectron)?;
@@ -93,11 +96,11 @@ fn weightless(elements: &[Element]) -> Option<&Element>
     elements.iter().find(|element| element.total() == 0)
 }
 
-/// Takes in an isotope of the element of this symbol, which the record `place` has with this
-/// valence.
+/// Takes in an isotope of the element of this symbol, which the record of this number has with
+/// this valence.
 fn add_isotope(
     elements: &mut IndexMap<Symbol, Element>,
-    place: u64,
+    record_number: u64,
     symbol: Symbol,
     valence: u32,
     isotope: Isotope,
@@ -105,15 +108,17 @@ fn add_isotope(
     requires row { IsIsotopeRow symbol valence isotope }
     requires symbols { keys elements.old ≡ map (λ e. e.symbol) (values elements.old) }
     requires elements { AreElements (values elements.old) }
-    ensures added { Changes (fault_among place (values elements.old) symbol valence isotope) (with_isotope_of (values elements.old) symbol valence isotope) result (values elements.new) }
+    ensures added { GivesAs (λ _. values elements.new) is_memory result
+        (unless_fault (fault_among record_number (values elements.old) symbol valence isotope)
+        (Ok (with_isotope_of (values elements.old) symbol valence isotope))) }
     ensures symbols { keys elements.new ≡ map (λ e. e.symbol) (values elements.new) }
     ensures elements { AreElements (values elements.new) }
 {
     if let Some(element) = elements.get_mut(&symbol) {
-        return element.add(place, valence, isotope);
+        return element.add(record_number, valence, isotope);
     }
     if elements.len() == MAX_ELEMENTS {
-        return Err(TableFault::TooManyElements { row: place });
+        return Err(TableFault::TooManyElements { row: record_number });
     }
     let element = Element::new(*elements.allocator(), symbol, valence, isotope)?;
     elements.insert(symbol, element)?;

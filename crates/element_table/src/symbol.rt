@@ -1,3 +1,5 @@
+//! The symbol of an element.
+
 ghost use Rattle.std.specs.Prelude.{◌≡◌, ◌∷◌, [], IfSome, IfNone, IsTrue, Some, None, if◌then◌else◌};
 ghost use Rattle.std.specs.Str.{bytes_eq};
 ghost use Rattle.std.proofs.Common.{rules};
@@ -5,6 +7,7 @@ ghost use Rattle.std.specs.Cmp.Rules.{comparing, hashing};
 ghost use Rattle.std.specs.Hash as fed;
 ghost use Rattle.element_table.specs.SymbolText.{is_symbol};
 
+use std::fmt;
 use std::hash::{Hash, Hasher};
 use std::marker::Model;
 
@@ -66,6 +69,17 @@ impl Symbol {
         ensures symbol { IsTrue (is_symbol self.now) }
     {
         &self.letters[..self.len as usize]
+    }
+}
+
+impl fmt::Display for Symbol {
+    ghost output = { λ s. Some s };
+
+    fn fmt<W: fmt::Write>(&self, f: &mut fmt::Formatter<W>) -> fmt::Result {
+        match str::from_utf8(self.text()) {
+            Ok(letters) => f.write_str(letters),
+            Err(_) => unreachable!(),
+        }
     }
 }
 

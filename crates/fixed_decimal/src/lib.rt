@@ -1,8 +1,9 @@
 //! Decimal numbers with a fixed number of decimals, as whole numbers of units, and their texts.
 //!
-//! A [`Fixed`] is seen by contracts as its number of units. The crate stands on no other. The layers above
-//! read masses, abundances and coverages by [`Fixed::read`] and whole numbers by [`whole`], both up to a
-//! limit, and print masses by [`Fixed::print`].
+//! A [`Fixed`] is seen by contracts as its number of units. The crate stands on `reader_answers` and
+//! `thiserror`. The layers above read decimals by [`Fixed::read`] and [`Fixed::read_within`], whole numbers
+//! by [`whole`] and [`whole_within`], up to a limit or in a range, and the digits that a text begins with by
+//! [`leading_digits`] and [`capped_number`]. They print decimals by [`Fixed::print`].
 #![tactic(auto)]
 
 mod digits;
@@ -11,22 +12,28 @@ mod printing;
 #[cfg(test)]
 mod tests;
 
-ghost use Rattle.std.specs.Prelude.{◌≡◌, ◌≤◌, ℕ, List, IfOk};
-ghost use Rattle.fixed_decimal.specs.Decimal.{read_decimal, decimal_text, decimal_value, IsPlainDecimal};
+ghost use Rattle.std.specs.Prelude.{◌≡◌, ◌↔◌, ◌≤◌, ℕ, List, Result, Ok, IfOk, IfSome, IsNone};
+ghost use Rattle.fixed_decimal.specs.Decimal.{decimal_within, read_decimal};
+ghost use Rattle.fixed_decimal.specs.DecimalTexts.{DecimalReading, IsPlainDecimal, decimal_text};
+ghost use Rattle.fixed_decimal.specs.declared.DecimalFault.{DecimalFault};
 
-pub use digits::whole;
+pub use digits::{capped_number, leading_digits, whole, whole_within};
 use std::alloc::{AllocError, Global};
 use std::marker::Model;
+use thiserror::Error;
 
 /// Why a text is refused as a decimal number.
-#[derive(Clone, Copy, Debug, PartialEq, Eq)]
+#[derive(Clone, Copy, Debug, PartialEq, Eq, Error)]
 pub enum DecimalFault {
     /// The text is no decimal text. The place is the first byte at which none can go on, or the
     /// length where the text ends too early.
+    #[error("byte {place}: not a decimal number")]
     NotDecimal { place: u64 },
     /// A digit behind the last decimal isn't 0. The place is that of the first such digit.
+    #[error("byte {place}: a digit behind the last decimal that isn't 0")]
     TooFine { place: u64 },
     /// The number of units is above the limit.
+    #[error("the number is above its limit")]
     TooLarge,
 }
 
@@ -67,6 +74,10 @@ impl<const D: u32> Fixed<D> {
     #[tactic(auto, unfolding(crate::specs::Decimal::read_decimal, crate::specs::Decimal::fine_place, crate::specs::Decimal::decimal_value))]
     pub fn read(text: &[u8], limit: u64) -> Result<Self, DecimalFault>
         ensures value { result ≡ read_decimal D limit text.now }
+
+        // That is what the text is read as, and the only answer that it may be read as.
+        ensures meaning { DecimalReading D limit text.now result }
+        ensures only { (answer : Result ℕ DecimalFault) → DecimalReading D limit text.now answer → answer ≡ result }
         ensures within { IfOk result (λ fixed. fixed ≤ limit) }
     {
         let (whole, fraction) = parts::split(text).map_err(|place| DecimalFault::NotDecimal {
@@ -79,16 +90,28 @@ impl<const D: u32> Fixed<D> {
         Ok(Self { units })
     }
 
+    /// Reads a decimal text from `low` to `high`, in units of 10^-D. `None` where the text is no
+    /// decimal text or too fine, or its number is outside the range.
+    pub fn read_within(text: &[u8], low: u64, high: u64) -> Option<Self>
+        ensures value { result ≡ decimal_within D low high text.now }
+        ensures within { IfSome result (λ fixed. (low ≤ fixed) × (fixed ≤ high)) }
+        ensures some { IfSome result (λ fixed. DecimalReading D high text.now (Ok fixed)) }
+        ensures none { IsNone result ↔ ¬ ((units : ℕ) × (low ≤ units) × DecimalReading D high text.now (Ok units)) }
+    {
+        let fixed = Self::read(text, high).ok()?;
+        (low <= fixed.units).then_some(fixed)
+    }
+
     /// The decimal text of the number: the whole part without leading zeros, a point and exactly
     /// D digits. The only error is want of memory.
     pub fn print(self, alloc: Global) -> Result<Vec<u8>, AllocError>
         // What is printed.
         ensures text { IfOk result (λ text. text.items ≡ decimal_text D self.entry) }
 
-        // The printed text is read back as the number, and of the plain texts it alone is.
-        ensures reads_back { (limit : ℕ) → 1 ≤ D → self.entry ≤ limit → read_decimal D limit (decimal_text D self.entry) ≡ Ok self.entry }
-        ensures plain { 1 ≤ D → IsPlainDecimal D (decimal_text D self.entry) }
-        ensures one_text { (text : List ℕ) → 1 ≤ D → IsPlainDecimal D text → decimal_value D text ≡ self.entry → text ≡ decimal_text D self.entry }
+        // It is read back as the number, and of the plain texts it alone is the number's.
+        ensures reads_back { IfOk result (λ text. (limit : ℕ) → 1 ≤ D → self.entry ≤ limit → read_decimal D limit text.items ≡ Ok self.entry) }
+        ensures plain { IfOk result (λ text. 1 ≤ D → IsPlainDecimal D self.entry text.items) }
+        ensures one_text { IfOk result (λ text. (other : List ℕ) → 1 ≤ D → IsPlainDecimal D self.entry other → other ≡ text.items) }
     {
         let units = self.units();
         printing::decimal_text(alloc, units, D)

@@ -2,10 +2,13 @@
 
 ghost use Rattle.std.specs.Prelude.{◌≡◌, ◌++◌, ◌/◌, ◌^◌, IfOk, OnOk, reverse};
 ghost use Rattle.std.specs.Fmt.{decimal};
-ghost use Rattle.fixed_decimal.specs.Decimal.{decimal_text, last_digits};
+ghost use Rattle.fixed_decimal.specs.DecimalTexts.{decimal_text, last_digits};
 
 use crate::digits::last_digit;
 use std::alloc::{AllocError, Global};
+
+/// The digits of the greatest number of 64 bits.
+const MAX_DIGITS: usize = 20;
 
 /// Appends so many of a number's last digits, and gives the number without them.
 pub(crate) fn push_last_digits(
@@ -41,7 +44,7 @@ pub(crate) fn push_digits(text: &mut Vec<u8>, number: u64) -> Result<(), AllocEr
 pub(crate) fn decimal_text(alloc: Global, units: u64, decimals: u32) -> Result<Vec<u8>, AllocError>
     ensures { IfOk result (λ text. text.items ≡ decimal_text decimals units) }
 {
-    let mut text = Vec::with_capacity(alloc, decimals as usize + 21)?;
+    let mut text = Vec::with_capacity(alloc, decimals as usize + 1 + MAX_DIGITS)?;
     let whole = push_last_digits(&mut text, units, decimals)?;
     text.push(b'.')?;
     push_digits(&mut text, whole)?;

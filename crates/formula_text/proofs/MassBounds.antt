@@ -1,25 +1,13 @@
 -- No isotope of a table is heavier than 400 Da.
-use Rattle.std.proofs.Common.{◌≡◌, ℕ, ◌≤◌, true, false, cond, List, [], ◌∷◌, subst, arith}
-use Rattle.std.specs.Prelude.{Some, fold, All, nat_lt, ◌==◌}
+use Rattle.std.proofs.Common.{◌≡◌, ℕ, ◌≤◌, true, false, cond, List, [], ◌∷◌, subst}
+use Rattle.std.specs.Prelude.{Some, All, ◌==◌}
 use Rattle.std.specs.List.{AllByRecursion}
 use Rattle.std.proofs.lemmas.List.Elements.{recursion_from_All}
 use Rattle.element_table.specs.declared.element.Isotope.{Isotope}
-use Rattle.element_table.specs.Elements.{IsIsotope, weightier, reference_isotope, isotope_of}
+use Rattle.element_table.specs.Elements.{IsIsotope, isotope_of}
 
-fold-light : (i : Isotope) (is : List Isotope) → IsIsotope i → AllByRecursion IsIsotope is → (fold weightier i is).mass ≤ 400000000000000
-fold-light i [] h hs = h.mass_to
-fold-light i (j ∷ js) h hs =
-    elim (nat_lt i.weight j.weight) as (λ b. (fold weightier (cond b j i) js).mass ≤ 400000000000000) [
-      | true ↦ fold-light j js hs.0 hs.1
-      | false ↦ fold-light i js h hs.1
-    ]
-
-pub reference_isotope-light : (is : List Isotope) → All IsIsotope is → (reference_isotope is).mass ≤ 400000000000000
-reference_isotope-light [] h = omega arith
-reference_isotope-light (i ∷ is) h =
-    let hs = recursion_from_All IsIsotope (i ∷ is) h in fold-light i is hs.0 hs.1
-
-found-light : (is : List Isotope) (number : ℕ) (i : Isotope) → AllByRecursion IsIsotope is → isotope_of is number ≡ Some i → i.mass ≤ 400000000000000
+found-light : (is : List Isotope) (number : ℕ) (i : Isotope) → AllByRecursion IsIsotope is
+    → isotope_of is number ≡ Some i → i.mass ≤ 400000000000000
 found-light [] number i h e = cc
 found-light (j ∷ js) number i h e =
     elim (j.number == number) as (λ b. cond b (Some j) (isotope_of js number) ≡ Some i → i.mass ≤ 400000000000000) [
@@ -27,5 +15,6 @@ found-light (j ∷ js) number i h e =
       | false ↦ λ e. found-light js number i h.1 e
     ] e
 
-pub isotope_of-light : (is : List Isotope) (number : ℕ) (i : Isotope) → All IsIsotope is → isotope_of is number ≡ Some i → i.mass ≤ 400000000000000
+pub isotope_of-light : (is : List Isotope) (number : ℕ) (i : Isotope) → All IsIsotope is → isotope_of is number ≡ Some i
+    → i.mass ≤ 400000000000000
 isotope_of-light is number i h = found-light is number i (recursion_from_All IsIsotope is h)

@@ -1,13 +1,15 @@
 -- Formulas, which are lists of items with the numbers of their atoms, and the sum of such counts.
-use Rattle.std.specs.Prelude.{ℕ, ◌+◌, ◌≡◌, ◌≤◌, ◌<◌, Bool, ◌&&◌, ◌||◌, nat_lt, List, [], ◌∷◌, length, fold, filter, sum_by, All, IsTrue, if◌then◌else◌, Option, Some, None, Result, Ok, Err, ⊤}
+use Rattle.std.specs.Prelude.{ℕ, ◌+◌, ◌^◌, ◌≡◌, ◌≤◌, ◌<◌, Bool, ◌&&◌, ◌||◌, nat_lt, List, [], ◌∷◌, length, fold, filter, sum_by, All, IsTrue, if◌then◌else◌, Option, Some, None, Result, Ok, Err}
 use Rattle.std.specs.List.{list_any}
 use Rattle.std.specs.FinMap.{put, is_sorted}
 use Rattle.std.specs.Str.{bytes_eq}
 use Rattle.element_table.specs.SymbolText.{is_symbol}
-use Rattle.formula_text.specs.declared.item.Item.{Item}
+use Rattle.written_items.specs.declared.item.Item.{Item}
 use Rattle.formula_text.specs.declared.fault.PartsFault.{PartsFault}
-use Rattle.formula_text.specs.declared.fault.PartsFault.TheVariants.{TooManyAtoms, TooManyElements, Memory}
-use Rattle.formula_text.specs.Items.{item_eq, carbon_symbol, hill_cmp}
+use Rattle.formula_text.specs.declared.fault.PartsFault.TheVariants.{TooManyAtoms, TooManyElements}
+use Rattle.written_items.specs.Items.{item_eq}
+use Rattle.formula_text.specs.Limits.{max_atoms_of_item, max_atoms, max_items}
+use Rattle.formula_text.specs.HillOrder.{carbon_symbol, hill_cmp}
 
 -- the sum of the counts that a list gives an item
 abbrev pub count_in : List (Item × ℕ) → Item → ℕ
@@ -25,15 +27,20 @@ has_carbon parts = list_any (λ p. bytes_eq p.0.symbol carbon_symbol && nat_lt 0
 abbrev pub is_in_hill_order : List (Item × ℕ) → Bool
 is_in_hill_order items = is_sorted (hill_cmp (has_carbon items)) items
 
+-- an item has a symbol, and a label of at most 2^32 - 1
+pub record IsItem (item : Item) : Type 0 where
+  pub symbol : IsTrue (is_symbol item.symbol)
+  pub label : item.label < 2 ^ 32
+
 -- the counts of a formula, or of a part of one, which may have no atom: each item with an atom
 -- once, in Hill order, at most 10,000 atoms of an item, 20,000 in all and 20 items
 pub record IsParts (items : List (Item × ℕ)) : Type 0 where
   pub ordered : IsTrue (is_in_hill_order items)
-  pub symbols : All (λ p. IsTrue (is_symbol p.0.symbol)) items
+  pub are_items : All (λ p. IsItem p.0) items
   pub positive : All (λ p. 0 < p.1) items
-  pub few_of_each : All (λ p. p.1 ≤ 10000) items
-  pub few_atoms : atoms_of items ≤ 20000
-  pub few_items : length items ≤ 20
+  pub few_of_each : All (λ p. p.1 ≤ max_atoms_of_item) items
+  pub few_atoms : atoms_of items ≤ max_atoms
+  pub few_items : length items ≤ max_items
 
 -- the counts of a formula, which has an atom
 pub record IsFormula (items : List (Item × ℕ)) : Type 0 where
@@ -50,11 +57,11 @@ sum_of parts = fold (with_part (has_carbon parts)) [] (filter (λ p. nat_lt 0 p.
 
 -- more than 10,000 atoms of an item or 20,000 in all
 abbrev pub has_many_atoms : List (Item × ℕ) → Bool
-has_many_atoms items = nat_lt 20000 (atoms_of items) || list_any (λ p. nat_lt 10000 p.1) items
+has_many_atoms items = nat_lt max_atoms (atoms_of items) || list_any (λ p. nat_lt max_atoms_of_item p.1) items
 
 -- more than 20 items
 abbrev pub has_many_items : List (Item × ℕ) → Bool
-has_many_items items = nat_lt 20 (length items)
+has_many_items items = nat_lt max_items (length items)
 
 -- a sum of parts, or the first limit that it passes
 abbrev pub within_limits : List (Item × ℕ) → Result (List (Item × ℕ)) PartsFault
@@ -65,12 +72,6 @@ within_limits items =
 -- the sum of the parts, or the first limit that it passes
 abbrev pub parts_of : List (Item × ℕ) → Result (List (Item × ℕ)) PartsFault
 parts_of parts = within_limits (sum_of parts)
-
--- this answer, or want of memory
-abbrev pub GivesParts :
-    Result (List (Item × ℕ)) PartsFault → Result (List (Item × ℕ)) PartsFault → Type 0
-GivesParts (Err (Memory e)) answer = ⊤
-GivesParts result answer = result ≡ answer
 
 -- a sum that is a formula: none where a limit is passed or there is no atom
 abbrev pub formula_in : Result (List (Item × ℕ)) PartsFault → Option (List (Item × ℕ))
@@ -85,6 +86,12 @@ formula_of parts = formula_in (parts_of parts)
 -- the count of each item is the sum of the parts' counts of it
 abbrev pub SumsUp : List (Item × ℕ) → List (Item × ℕ) → Type 0
 SumsUp parts f = (item : Item) → count_in f item ≡ count_in parts item
+
+-- the sums of the parts' counts: each item that has an atom once, in Hill order, with the sum of its counts
+pub record AreSums (parts sums : List (Item × ℕ)) : Type 0 where
+  pub ordered : IsTrue (is_in_hill_order sums)
+  pub positive : All (λ p. 0 < p.1) sums
+  pub counts : SumsUp parts sums
 
 -- a formula whose counts are the sums of the parts' counts
 pub record IsSumOf (parts f : List (Item × ℕ)) : Type 0 where

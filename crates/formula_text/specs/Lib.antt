@@ -1,5 +1,14 @@
-pub mod Items
+pub use Rattle.reader_answers.specs.Answers
+pub use Rattle.reader_answers.specs.BadPlaces
+pub use Rattle.element_table.specs.Elements
+pub use Rattle.written_items.specs.Items
+pub use Rattle.written_items.specs.WrittenItems
+pub use Rattle.written_items.specs.WrittenRows
+pub mod Limits
+pub mod HillOrder
 pub mod Formulas
 pub mod Masses
 pub mod PrintedText
 pub mod FormulaTexts
+pub mod FormulaReader
+pub mod FormulaFaults

@@ -2,12 +2,12 @@
 use Rattle.std.specs.Prelude.{ℕ, ◌*◌, ◌==◌, List, sum_by, All, IsTrue, is_some, Option, Some, None, if◌then◌else◌}
 use Rattle.element_table.specs.declared.element.Isotope.{Isotope}
 use Rattle.element_table.specs.Elements.{TableEntries, ElementEntry, element_of, isotope_of, reference_isotope}
-use Rattle.formula_text.specs.declared.item.Item.{Item}
+use Rattle.written_items.specs.declared.item.Item.{Item}
 
 -- of an element the isotope of an item's atoms: the labelled one, or the reference isotope
 abbrev pub isotope_in : ElementEntry → ℕ → Option Isotope
 isotope_in element label =
-    if label == 0 then Some (reference_isotope element.isotopes)
+    if label == 0 then Some (reference_isotope element)
     else isotope_of element.isotopes label
 
 -- the same of an element that may be missing

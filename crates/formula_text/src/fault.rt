@@ -1,6 +1,8 @@
-ghost use Rattle.std.specs.Prelude.{◌≡◌};
+//! Why counts are no formula, and why a text isn't that of one.
+ghost use Rattle.std.specs.Prelude.{◌≡◌, IfOk, string_bytes};
+ghost use Rattle.formula_text.specs.FormulaFaults.{formula_fault_words};
 
-use std::alloc::{AllocError, AllocFailed};
+use std::alloc::{AllocError, AllocFailed, Global};
 use thiserror::Error;
 
 /// Why counts aren't within the limits of a formula: the first of these causes.
@@ -31,12 +33,16 @@ impl From<AllocError> for PartsFault {
 /// bytes before it.
 #[derive(Debug, Drop, Error)]
 pub enum FormulaFault {
-    /// The first byte at which no formula text can go on.
+    /// The first byte at which no formula text can go on, or the length of a text that ends inside an item.
     #[error("bad text at {place}")]
     BadText { place: u64 },
-    /// The first item whose element isn't in the table, by its first byte.
+    /// The first item that isn't in the table, by its first byte, where its element isn't.
     #[error("unknown symbol at {place}")]
     UnknownSymbol { place: u64 },
+    /// The first item that isn't in the table, by its first byte, where its element is, and has no isotope of
+    /// that number.
+    #[error("unknown isotope at {place}")]
+    UnknownIsotope { place: u64 },
     /// More than 10,000 atoms of an item, or more than 20,000 in all.
     #[error("too many atoms")]
     TooManyAtoms,
@@ -51,8 +57,37 @@ pub enum FormulaFault {
     Memory(AllocError),
 }
 
+impl FormulaFault {
+    /// What a note says of the fault. Want of memory has the words `memory`.
+    pub fn words(&self, alloc: Global) -> Result<String, AllocError>
+        ensures { IfOk result (λ words. string_bytes words ≡ formula_fault_words self.now) }
+    {
+        match self {
+            FormulaFault::BadText { place } => format!(in alloc; "bad text at {place}"),
+            FormulaFault::UnknownSymbol { place } => format!(in alloc; "unknown symbol at {place}"),
+            FormulaFault::UnknownIsotope { place } => format!(in alloc;
+                "unknown isotope at {place}"
+            ),
+            FormulaFault::TooManyAtoms => String::from_str(alloc, "too many atoms"),
+            FormulaFault::TooManyElements => String::from_str(alloc, "too many elements"),
+            FormulaFault::Empty => String::from_str(alloc, "empty"),
+            FormulaFault::Memory(_) => String::from_str(alloc, "memory"),
+        }
+    }
+}
+
+impl From<AllocError> for FormulaFault {
+    ghost use Rattle.formula_text.specs.declared.fault.FormulaFault.TheVariants.{Memory};
+
+    ghost from_gives = { λ e fault. fault ≡ Memory e };
+
+    fn from(e: AllocError) -> FormulaFault {
+        FormulaFault::Memory(e)
+    }
+}
+
 impl From<PartsFault> for FormulaFault {
-    ghost use Rattle.formula_text.specs.FormulaTexts.{fault_of};
+    ghost use Rattle.formula_text.specs.FormulaFaults.{fault_of};
 
     ghost from_gives = { λ e fault. fault ≡ fault_of e };
 

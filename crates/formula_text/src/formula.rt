@@ -1,17 +1,19 @@
-ghost use Rattle.std.specs.Prelude.{◌≡◌, ℕ, List, IfOk, IfSome, Some, Ok};
-ghost use Rattle.formula_text.specs.declared.item.Item.{Item};
-ghost use Rattle.formula_text.specs.Formulas.{IsParts, IsFormula, IsSumOf, count_in, atoms_of, formula_in, formula_of};
+//! A molecular formula.
+ghost use Rattle.std.specs.Prelude.{◌≡◌, ◌↔◌, ℕ, List, IfOk, IfSome, Some, Ok, IsTrue};
+ghost use Rattle.written_items.specs.declared.item.Item.{Item};
+ghost use Rattle.formula_text.specs.Formulas.{IsParts, IsFormula, SumsUp, IsSumOf, count_in, atoms_of, formula_in, formula_of};
 ghost use Rattle.formula_text.specs.Masses.{HasItems, mass_of};
 ghost use Rattle.formula_text.specs.PrintedText.{printed};
-ghost use Rattle.formula_text.specs.FormulaTexts.{FormulaText, IsPlain, read_of};
+ghost use Rattle.formula_text.specs.FormulaTexts.{FormulaText};
+ghost use Rattle.formula_text.specs.FormulaReader.{read_of};
 ghost use Rattle.element_table.specs.Elements.{TableEntries};
 
 use crate::fault::PartsFault;
-use crate::item::Item;
 use crate::parts::Parts;
 use element_table::Table;
 use std::alloc::{AllocError, Global};
 use std::marker::Model;
+use written_items::Item;
 
 /// A molecular formula: items with their counts in Hill order, with at least one atom. It has at
 /// most 10,000 atoms of an item, 20,000 in all, and 20 items.
@@ -22,7 +24,7 @@ pub struct Formula {
 
 impl Model for Formula {
     ghost use Rattle.std.specs.Prelude.{List, ℕ};
-    ghost use Rattle.formula_text.specs.declared.item.Item.{Item};
+    ghost use Rattle.written_items.specs.declared.item.Item.{Item};
     ghost use Rattle.formula_text.specs.Formulas.{IsFormula};
 
     ghost Value = { List (Item × ℕ) };
@@ -75,6 +77,9 @@ impl Formula {
     pub fn count(&self, item: Item) -> u32
         ensures count { result ≡ count_in self.now item }
         ensures formula { IsFormula self.now }
+
+        // The counts of all items tell the formula: no other has the same.
+        ensures tells { (f : List (Item × ℕ)) → IsFormula f → SumsUp self.now f → f ≡ self.now }
     {
         self.parts.count(item)
     }
@@ -85,6 +90,13 @@ impl Formula {
         ensures formula { IsFormula self.now }
     {
         self.parts.atoms()
+    }
+
+    /// Whether the table has each item: its element, and its isotope where the item is labelled.
+    pub fn is_of(&self, table: &Table) -> bool
+        ensures known { IsTrue result ↔ HasItems table.now self.now }
+    {
+        self.parts.is_of(table)
     }
 
     /// The mass in 10^-12 Da: the sum of count times mass, where a labelled item has its isotope's
@@ -102,14 +114,24 @@ impl Formula {
         ensures text { IfOk result (λ text. text.items ≡ printed self.now) }
         ensures formula { IsFormula self.now }
 
-        // Without labels, the text is related to this formula and to no other, and it is read back
-        // as this formula with each table that has the items.
-        ensures related { IfOk result (λ text. IsPlain self.now → FormulaText text.items self.now) }
-        ensures no_other { IfOk result (λ text. IsPlain self.now →
+        // The text is related to this formula and to no other, and it is read back as this formula with
+        // each table that has the items.
+        ensures related { IfOk result (λ text. FormulaText text.items self.now) }
+        ensures no_other { IfOk result (λ text.
             (f : List (Item × ℕ)) → IsFormula f → FormulaText text.items f → f ≡ self.now) }
-        ensures read_back { IfOk result (λ text. IsPlain self.now → (table : TableEntries) →
+        ensures read_back { IfOk result (λ text. (table : TableEntries) →
             HasItems table self.now → read_of table text.items ≡ Ok self.now) }
     {
         self.parts.print()
+    }
+}
+
+impl Clone for Formula {
+    ghost is_clone = { λ formula copy. copy ≡ formula };
+
+    fn clone(&self) -> Result<Formula, AllocError> {
+        Ok(Formula {
+            parts: self.parts.clone()?,
+        })
     }
 }

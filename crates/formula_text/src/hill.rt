@@ -2,12 +2,12 @@
 ghost use Rattle.std.specs.Prelude.{◌≡◌, IsTrue};
 ghost use Rattle.std.specs.Str.{bytes_eq};
 ghost use Rattle.element_table.specs.SymbolText.{is_symbol};
-ghost use Rattle.formula_text.specs.Items.{carbon_symbol, hill_rank, hill_cmp};
+ghost use Rattle.formula_text.specs.HillOrder.{carbon_symbol, hill_rank, hill_cmp};
 ghost use Rattle.formula_text.specs.Formulas.{has_carbon};
 
-use crate::item::Item;
 use element_table::Symbol;
 use std::cmp::Ordering;
+use written_items::Item;
 
 /// Whether this is the symbol of carbon.
 fn is_carbon(symbol: &Symbol) -> bool

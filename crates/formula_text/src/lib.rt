@@ -3,7 +3,8 @@
 //! A [`Formula`] is seen by contracts as its list of items with their counts, in Hill order, and so
 //! is a [`Parts`], which may be empty. An [`Item`] is an element or a labelled isotope.
 //!
-//! The crate stands on `element_table` for symbols and isotopes, and on `itoa` and `thiserror`. The layers
+//! The crate stands on `written_items` for items and the grammar of rows of them, on `element_table` for
+//! elements and isotopes, on `fixed_decimal` for numbers, on `reader_answers` and on `thiserror`. The layers
 //! above read texts by [`read_formula`], which gives the formula or the first fault and its place, add
 //! parts up by [`Formula::of`], and ask a formula for its mass and its one printed text.
 #![tactic(auto)]
@@ -11,7 +12,6 @@
 mod fault;
 mod formula;
 mod hill;
-mod item;
 mod mass;
 mod parts;
 mod print;
@@ -20,11 +20,11 @@ mod sum;
 
 pub use fault::{FormulaFault, PartsFault};
 pub use formula::Formula;
-pub use item::Item;
-pub use parts::Parts;
+pub use parts::{MAX_ATOMS, MAX_ATOMS_OF_ITEM, MAX_ITEMS, Parts};
 pub use read::read_formula;
+pub use written_items::Item;
 
 #[cfg(test)]
-mod reading_tests;
+mod read_tests;
 #[cfg(test)]
 mod tests;

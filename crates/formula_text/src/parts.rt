@@ -1,17 +1,29 @@
-ghost use Rattle.std.specs.Prelude.{◌≡◌, ℕ, List, IfOk, Ok};
-ghost use Rattle.formula_text.specs.declared.item.Item.{Item};
-ghost use Rattle.formula_text.specs.Formulas.{IsParts, SumsUp, count_in, atoms_of, GivesParts, parts_of};
+//! The counts of a formula, or of a part of one.
+ghost use Rattle.std.specs.Prelude.{◌≡◌, ◌↔◌, ℕ, List, IfOk, Ok, IsTrue};
+ghost use Rattle.reader_answers.specs.Answers.{Gives};
+ghost use Rattle.formula_text.specs.FormulaFaults.{is_parts_memory};
+ghost use Rattle.written_items.specs.declared.item.Item.{Item};
+ghost use Rattle.formula_text.specs.Formulas.{IsParts, SumsUp, count_in, atoms_of, parts_of};
 ghost use Rattle.formula_text.specs.Masses.{HasItems, mass_of};
 ghost use Rattle.formula_text.specs.PrintedText.{printed};
 
 use crate::fault::PartsFault;
-use crate::item::Item;
-use crate::mass::mass_of;
+use crate::mass::{has_item, mass_of};
 use crate::print::printed;
-use crate::sum::{MOST_ITEMS, count_of, has_many_atoms, has_many_of_one, sum_of};
+use crate::sum::{count_of, has_many_atoms, has_many_of_one, sum_of};
 use element_table::Table;
 use std::alloc::{AllocError, Global};
 use std::marker::Model;
+use written_items::Item;
+
+/// The greatest number of atoms of an item.
+pub const MAX_ATOMS_OF_ITEM: u32 = 10_000;
+
+/// The greatest number of atoms in all.
+pub const MAX_ATOMS: u32 = 20_000;
+
+/// The greatest number of items.
+pub const MAX_ITEMS: usize = 20;
 
 /// Items with their counts in Hill order: a part of a formula, which may have no atom. It has at
 /// most 10,000 atoms of an item, 20,000 in all, and 20 items.
@@ -22,7 +34,7 @@ pub struct Parts {
 
 impl Model for Parts {
     ghost use Rattle.std.specs.Prelude.{List, ℕ};
-    ghost use Rattle.formula_text.specs.declared.item.Item.{Item};
+    ghost use Rattle.written_items.specs.declared.item.Item.{Item};
     ghost use Rattle.formula_text.specs.Formulas.{IsParts};
 
     ghost Value = { List (Item × ℕ) };
@@ -36,13 +48,13 @@ impl Parts {
     /// The sum of the parts: equal items are added up, and counts of 0 left out. Refused where a
     /// limit is passed, with the first of the causes that [`PartsFault`] lists.
     pub fn of(alloc: Global, parts: &[(Item, u32)]) -> Result<Parts, PartsFault>
-        ensures sum { GivesParts result (parts_of parts.now) }
+        ensures sum { Gives is_parts_memory result (parts_of parts.now) }
         ensures parts { IfOk result IsParts }
 
         // The counts are the sums of the parts' counts, and are the only such within the limits.
         ensures counts { IfOk result (SumsUp parts.now) }
         ensures only { (f : List (Item × ℕ)) →
-            IsParts f → SumsUp parts.now f → GivesParts result (Ok f) }
+            IsParts f → SumsUp parts.now f → Gives is_parts_memory result (Ok f) }
     {
         if has_many_atoms(parts) {
             return Err(PartsFault::TooManyAtoms);
@@ -51,7 +63,7 @@ impl Parts {
         if has_many_of_one(&items) {
             return Err(PartsFault::TooManyAtoms);
         }
-        if items.len() > MOST_ITEMS {
+        if items.len() > MAX_ITEMS {
             return Err(PartsFault::TooManyElements);
         }
         Ok(Parts { items })
@@ -69,6 +81,9 @@ impl Parts {
     pub fn count(&self, item: Item) -> u32
         ensures count { result ≡ count_in self.now item }
         ensures parts { IsParts self.now }
+
+        // The counts of all items tell the parts: no others have the same.
+        ensures tells { (f : List (Item × ℕ)) → IsParts f → SumsUp self.now f → f ≡ self.now }
     {
         count_of(&self.items, &item)
     }
@@ -79,6 +94,13 @@ impl Parts {
         ensures parts { IsParts self.now }
     {
         self.items.iter().map(|(_, count)| *count).sum()
+    }
+
+    /// Whether the table has each item: its element, and its isotope where the item is labelled.
+    pub fn is_of(&self, table: &Table) -> bool
+        ensures known { IsTrue result ↔ HasItems table.now self.now }
+    {
+        self.items.iter().all(|(item, _)| has_item(table, item))
     }
 
     /// The mass in 10^-12 Da: the sum of count times mass, where a labelled item has its isotope's
@@ -97,5 +119,15 @@ impl Parts {
         ensures parts { IsParts self.now }
     {
         printed(*self.items.allocator(), &self.items)
+    }
+}
+
+impl Clone for Parts {
+    ghost is_clone = { λ parts copy. copy ≡ parts };
+
+    fn clone(&self) -> Result<Parts, AllocError> {
+        Ok(Parts {
+            items: self.items.clone()?,
+        })
     }
 }

@@ -1,145 +1,152 @@
 //! The reader of formula texts.
-ghost use Rattle.std.specs.Prelude.{◌≡◌, ◌-◌, ◌^◌, ◌<◌, ℕ, List, map, length, min, All, IsTrue, IfOk, IfErr, Ok, Err, Result, None, option_map};
-ghost use Rattle.std.specs.List.{list_all, prefix_len};
-ghost use Rattle.std.specs.Char.{is_ascii_digit};
-ghost use Rattle.element_table.specs.SymbolText.{is_symbol, is_small};
-ghost use Rattle.formula_text.specs.declared.item.Item.{Item};
-ghost use Rattle.formula_text.specs.declared.fault.FormulaFault.{FormulaFault};
-ghost use Rattle.formula_text.specs.declared.fault.FormulaFault.TheVariants.{UnknownSymbol};
+ghost use Rattle.std.specs.Prelude.{◌≡◌, ◌<◌, length, map, IfOk, IfErr, IfSome, OnOk, OnErr, Result, List, ℕ, MatchBool, ⊤, Ok, Err};
+ghost use Rattle.reader_answers.specs.Answers.{Gives};
+ghost use Rattle.std.specs.Str.Parse.{AllDigits};
+ghost use Rattle.element_table.specs.Elements.{IsTable};
+ghost use Rattle.written_items.specs.RowReading.{count_tail, leading_part, row_of};
+ghost use Rattle.formula_text.specs.FormulaFaults.{is_memory};
 ghost use Rattle.formula_text.specs.Masses.{HasItems};
-ghost use Rattle.formula_text.specs.FormulaTexts.{IsTextOf, IsBadPlace, IfBadText, count_of_digits, small_after, bad_text, symbol_len, item_at, items_of, unknown_symbol, fault_or, read_of, GivesFormula, capped};
+ghost use Rattle.formula_text.specs.FormulaTexts.{Answer, FormulaReading};
+ghost use Rattle.formula_text.specs.FormulaReader.{read_of, count_value, told_part, value_part, value_item, value_fault, values_fault, values_or_fault};
 
 use crate::fault::FormulaFault;
 use crate::formula::Formula;
-use crate::item::Item;
 use crate::parts::Parts;
-use element_table::{Symbol, Table};
-use std::alloc::Global;
+use element_table::Table;
+use fixed_decimal::capped_number;
+use std::alloc::{AllocError, Global};
+use written_items::{BadItem, Item, LeadingItem, leading_digits, leading_item};
 
-/// How many more small letters a symbol may have after a byte, where it may have `small` before it;
-/// `None` where no formula text has this byte here.
-fn small_after(place: usize, small: u8, byte: u8) -> Option<u8>
-    ensures { result ≡ small_after place small byte }
+/// An item of a text with its count.
+#[derive(Clone, Copy, Debug, PartialEq, Eq)]
+pub struct ReadPart {
+    /// The place of the item's first byte.
+    at: usize,
+    item: LeadingItem,
+    /// The count, 2^32 - 1 for a greater one.
+    count: u32,
+}
+
+/// The formula of a text, as `C5[13C]H12O6`. Items may repeat and stand in any order, and equal items
+/// add up; a count has any number of digits, and one of 0 adds nothing. Refused with the first fault
+/// in the order in which [`FormulaFault`] lists them; of an unknown symbol and an unknown isotope the
+/// first by place.
+pub fn read_formula(alloc: Global, table: &Table, text: &[u8]) -> Result<Formula, FormulaFault>
+    ensures gives { Gives is_memory result (read_of table.now text.now) }
+    ensures meaning { FormulaReading table.now text.now (read_of table.now text.now) }
+    ensures only { (answer : Answer) → FormulaReading table.now text.now answer → answer ≡ read_of table.now text.now }
+
+    // The table has each item of the formula.
+    ensures known { IfOk result (HasItems table.now) }
 {
-    if byte.is_ascii_uppercase() {
-        Some(2)
-    } else if byte.is_ascii_digit() && place > 0 {
-        Some(0)
-    } else if byte.is_ascii_lowercase() && small > 0 {
-        Some(small - 1)
-    } else {
-        None
+    formula_of(alloc, table, text)
+}
+
+/// The formula of a text as it is computed.
+fn formula_of(alloc: Global, table: &Table, text: &[u8]) -> Result<Formula, FormulaFault>
+    ensures { Gives is_memory result (read_of table.now text.now) }
+{
+    let parts = read_parts(alloc, text)?;
+    if let Some(fault) = unknown_item(table, &parts) {
+        return Err(fault);
+    }
+    let items = counts_of(alloc, &parts)?;
+    let parts = Parts::of(alloc, &items)?;
+    match Formula::from_parts(parts) {
+        Some(formula) => Ok(formula),
+        None => Err(FormulaFault::Empty),
     }
 }
 
-/// The place of the first byte at which no formula text can go on.
-fn bad_text(text: &[u8]) -> Option<u64>
-    ensures { result ≡ bad_text text.now }
+/// The items of a text with their counts, in the order of the text.
+fn read_parts(alloc: Global, text: &[u8]) -> Result<Vec<ReadPart>, FormulaFault>
+    ensures parts { IfOk result (λ v. values_or_fault 0 (row_of count_tail text.now) ≡ Ok v.items) }
+    ensures fault { IfErr result (λ e. MatchBool (is_memory e) ⊤ (values_or_fault 0 (row_of count_tail text.now) ≡ Err e)) }
 {
-    let mut small = 0;
-    for (place, byte) in text.iter().enumerate() {
-        match small_after(place, small, *byte) {
-            Some(next) => small = next,
-            None => return Some(place as u64),
+    let mut parts = Vec::new(alloc);
+    let mut at = 0;
+    while at < text.len() {
+        match leading_part(&text[at..]) {
+            Ok((item, count, length)) => {
+                parts.push(ReadPart { at, item, count })?;
+                at += length;
+            }
+            Err(bad) => {
+                return Err(FormulaFault::BadText {
+                    place: (at + bad.at) as u64,
+                });
+            }
+        }
+    }
+    Ok(parts)
+}
+
+/// The item that a text begins with, its count, and how many bytes both take.
+fn leading_part(text: &[u8]) -> Result<(LeadingItem, u32, usize), BadItem>
+    ensures { result ≡ told_part (leading_part count_tail text.now) }
+{
+    let item = leading_item(text)?;
+    let digits = leading_digits(&text[item.byte_count..]);
+    Ok((item, count_of(digits), item.byte_count + digits.len()))
+}
+
+/// The count that digits write, 1 where there is none; 2^32 - 1 for a greater one.
+fn count_of(digits: &[u8]) -> u32
+    requires { AllDigits 10 digits.now }
+    ensures { result ≡ count_value digits.now }
+{
+    if digits.is_empty() {
+        1
+    } else {
+        capped_number(digits, u64::from(u32::MAX)) as u32
+    }
+}
+
+/// The fault of the first item that the table doesn't have.
+fn unknown_item(table: &Table, parts: &[ReadPart]) -> Option<FormulaFault>
+    ensures fault { result ≡ values_fault table.now parts.now }
+    ensures table { 0 < length parts.now → IsTable table.now }
+{
+    for part in parts {
+        if let Some(fault) = item_fault(table, part) {
+            return Some(fault);
         }
     }
     None
 }
 
-/// How many small letters a text begins with.
-fn small_letters(text: &[u8]) -> usize
-    ensures { result ≡ prefix_len is_small text.now }
+/// The fault of an item that the table doesn't have.
+fn item_fault(table: &Table, part: &ReadPart) -> Option<FormulaFault>
+    ensures fault { result ≡ value_fault table.now part.now }
+    ensures table { IsTable table.now }
 {
-    text.iter().take_while(|b| b.is_ascii_lowercase()).count()
-}
-
-/// How many digits a text begins with.
-fn digits(text: &[u8]) -> usize
-    ensures { result ≡ prefix_len is_ascii_digit text.now }
-{
-    text.iter().take_while(|b| b.is_ascii_digit()).count()
-}
-
-/// The number that the digits write, 1 where there is none; 2^32 - 1 for a greater one.
-fn count_of_digits(digits: &[u8]) -> u32
-    requires { IsTrue (list_all is_ascii_digit digits.now) }
-    ensures { result ≡ min (count_of_digits digits.now) (2 ^ 32 - 1) }
-{
-    if digits.is_empty() {
-        return 1;
+    let place = part.at as u64;
+    let Some(element) = table.element(part.item.symbol) else {
+        return Some(FormulaFault::UnknownSymbol { place });
+    };
+    match part.item.number {
+        None => None,
+        Some(number) if number > 0 && element.isotope(number).is_some() => None,
+        Some(_) => Some(FormulaFault::UnknownIsotope { place }),
     }
-    let mut count = 0u32;
-    for digit in digits {
-        count = count
-            .saturating_mul(10)
-            .saturating_add(u32::from(*digit - b'0'));
-    }
-    count
 }
 
-/// The item that a text begins with, and its count, 2^32 - 1 for a greater one.
-fn item_at(text: &[u8]) -> (Item, u32)
-    requires letter { 0 < length text.now }
-    requires symbol { IsTrue (is_symbol (item_at text.now).0.symbol) }
-    ensures { result ≡ capped (item_at text.now) }
+/// The items with their counts.
+fn counts_of(alloc: Global, parts: &[ReadPart]) -> Result<Vec<(Item, u32)>, AllocError>
+    ensures { IfOk result (λ v. v.items ≡ map value_part parts.now) }
 {
-    let (letters, rest) = text.split_at(1 + small_letters(&text[1..]));
-    let symbol = Symbol::of(letters).unwrap();
-    let count = count_of_digits(&rest[..digits(rest)]);
-    (Item { symbol, label: 0 }, count)
+    parts
+        .iter()
+        .map(|part| (item_of(&part.item), part.count))
+        .collect(alloc)
 }
 
-/// The items of a text with their counts, 2^32 - 1 for a greater one.
-fn read_items(alloc: Global, table: &Table, text: &[u8]) -> Result<Vec<(Item, u32)>, FormulaFault>
-    requires { All (λ p. IsTrue (is_symbol p.0.symbol)) (items_of text.now) }
-    ensures known { IfOk result (λ _. unknown_symbol table.now text.now ≡ None) }
-    ensures items { IfOk result (λ v. v.items ≡ map capped (items_of text.now)) }
-
-    // Whatever answer stood behind it, the unknown symbol is the fault.
-    ensures fault { IfErr result (λ e. (answer : Result (List (Item × ℕ)) FormulaFault) →
-        GivesFormula (Err e)
-        (fault_or (option_map UnknownSymbol (unknown_symbol table.now text.now)) answer)) }
+/// The item that was read.
+fn item_of(item: &LeadingItem) -> Item
+    ensures { result ≡ value_item item.now }
 {
-    let mut items = Vec::new(alloc);
-    for (place, byte) in text.iter().enumerate() {
-        if byte.is_ascii_uppercase() {
-            let (item, count) = item_at(&text[place..]);
-            if table.element(item.symbol).is_none() {
-                return Err(FormulaFault::UnknownSymbol {
-                    place: place as u64,
-                });
-            }
-            items.push((item, count))?;
-        }
-    }
-    Ok(items)
-}
-
-/// The formula of a text, as `C6H12O6`. Items may repeat and stand in any order, and equal items
-/// add up; a count has any number of digits, and one of 0 adds nothing. Refused with the first fault
-/// in the order in which [`FormulaFault`] lists them. Labelled isotopes, as in `[13C]`, aren't read
-/// yet: a `[` is bad text at its place.
-pub fn read_formula(alloc: Global, table: &Table, text: &[u8]) -> Result<Formula, FormulaFault>
-    ensures exact { GivesFormula result (read_of table.now text.now) }
-
-    // What is read is what the grammar relates to the text, and that is read.
-    ensures found { IfOk result (IsTextOf table.now text.now) }
-    ensures only { (f : List (Item × ℕ)) →
-        IsTextOf table.now text.now f → GivesFormula result (Ok f) }
-
-    // The table has each item of the formula.
-    ensures known { IfOk result (HasItems table.now) }
-
-    // Bad text is at the first byte at which no formula text can go on.
-    ensures bad_text { IfErr result (λ e. IfBadText e (IsBadPlace text.now)) }
-{
-    if let Some(place) = bad_text(text) {
-        return Err(FormulaFault::BadText { place });
-    }
-    let items = read_items(alloc, table, text)?;
-    let parts = Parts::of(alloc, &items)?;
-    match Formula::from_parts(parts) {
-        Some(formula) => Ok(formula),
-        None => Err(FormulaFault::Empty),
+    Item {
+        symbol: item.symbol,
+        label: item.number.unwrap_or(0),
     }
 }

@@ -4,31 +4,24 @@ ghost use Rattle.std.specs.Option.{option_copied, option_map_or};
 ghost use Rattle.std.specs.List.{list_any, prefix_len};
 ghost use Rattle.std.specs.Ordering.{is_gt};
 ghost use Rattle.std.specs.FinMap.{is_sorted};
-ghost use Rattle.element_table.specs.SymbolText.{is_symbol};
-ghost use Rattle.formula_text.specs.Items.{item_eq, hill_cmp};
-ghost use Rattle.formula_text.specs.Formulas.{atoms_of, with_part, sum_of};
+ghost use Rattle.written_items.specs.Items.{item_eq};
+ghost use Rattle.formula_text.specs.HillOrder.{hill_cmp};
+ghost use Rattle.formula_text.specs.Limits.{max_atoms, max_atoms_of_item};
+ghost use Rattle.formula_text.specs.Formulas.{IsItem, atoms_of, with_part, sum_of};
 
 use crate::hill::{has_carbon, hill_cmp};
-use crate::item::Item;
+use crate::parts::{MAX_ATOMS, MAX_ATOMS_OF_ITEM, MAX_ITEMS};
 use std::alloc::{AllocError, Global};
 use std::cmp::Ordering;
-
-/// How many atoms there may be in all.
-const MOST_ATOMS: u32 = 20_000;
-
-/// How many atoms there may be of an item.
-const MOST_OF_EACH: u32 = 10_000;
-
-/// How many items there may be.
-pub const MOST_ITEMS: usize = 20;
+use written_items::Item;
 
 /// Whether the parts have more than 20,000 atoms in all.
 pub fn has_many_atoms(parts: &[(Item, u32)]) -> bool
-    ensures { result ≡ nat_lt 20000 (atoms_of parts.now) }
+    ensures { result ≡ nat_lt max_atoms (atoms_of parts.now) }
 {
     let mut atoms = 0;
     for (_, count) in parts {
-        if *count > MOST_ATOMS - atoms {
+        if *count > MAX_ATOMS - atoms {
             return true;
         }
         atoms += *count;
@@ -38,9 +31,9 @@ pub fn has_many_atoms(parts: &[(Item, u32)]) -> bool
 
 /// Whether there are more than 10,000 atoms of an item.
 pub fn has_many_of_one(items: &[(Item, u32)]) -> bool
-    ensures { result ≡ list_any (λ p. nat_lt 10000 p.1) items.now }
+    ensures { result ≡ list_any (λ p. nat_lt max_atoms_of_item p.1) items.now }
 {
-    items.iter().any(|(_, count)| *count > MOST_OF_EACH)
+    items.iter().any(|(_, count)| *count > MAX_ATOMS_OF_ITEM)
 }
 
 /// The first entry of an item.
@@ -81,7 +74,7 @@ fn add_part(
     requires sorted { IsTrue (is_sorted (hill_cmp carbon) items.old.items) }
     requires room { atoms_of items.old.items + count < 2 ^ 32 }
     ensures sum { OnOk result (items.new.items ≡ with_part carbon items.old.items (item, count)) }
-    ensures symbol { IsTrue (is_symbol item.symbol) }
+    ensures item { IsItem item }
 {
     // Asking for the letters tells that they are a symbol.
     let _letters = item.symbol.text();
@@ -96,12 +89,12 @@ fn add_part(
 
 /// Equal items added up, without those that have no atom, in Hill order.
 pub fn sum_of(alloc: Global, parts: &[(Item, u32)]) -> Result<Vec<(Item, u32)>, AllocError>
-    requires { atoms_of parts.now ≤ 20000 }
+    requires { atoms_of parts.now ≤ max_atoms }
     ensures sum { IfOk result (λ v. v.items ≡ sum_of parts.now) }
-    ensures symbols { IfOk result (λ v. All (λ p. IsTrue (is_symbol p.0.symbol)) v.items) }
+    ensures items { IfOk result (λ v. All (λ p. IsItem p.0) v.items) }
 {
     let carbon = has_carbon(parts);
-    let mut items = Vec::with_capacity(alloc, parts.len().min(MOST_ITEMS))?;
+    let mut items = Vec::with_capacity(alloc, parts.len().min(MAX_ITEMS))?;
     for (item, count) in parts {
         if *count > 0 {
             add_part(&mut items, carbon, *item, *count)?;

@@ -37,74 +37,49 @@ fn expect_sum(
 
 #[test]
 fn sums_are_printed_in_hill_order(rt: HostRuntime) -> Result<(), Fail> {
-    let alloc = rt.alloc();
-    expect_sum(
-        &rt,
-        alloc,
-        &[(b"C", 0, 1), (b"H", 0, 4), (b"C", 0, 1), (b"H", 0, 4)],
-        b"C2H8",
-    )?;
-    expect_sum(
-        &rt,
-        alloc,
-        &[(b"O", 0, 6), (b"H", 0, 12), (b"C", 0, 6)],
-        b"C6H12O6",
-    )?;
-    expect_sum(
-        &rt,
-        alloc,
-        &[(b"Br", 0, 1), (b"H", 0, 5), (b"C", 0, 2), (b"B", 0, 1)],
-        b"C2H5BBr",
-    )?;
-    expect_sum(&rt, alloc, &[(b"Na", 0, 1), (b"Cl", 0, 1)], b"ClNa")?;
-    expect_sum(&rt, alloc, &[(b"H", 0, 1), (b"Cl", 0, 1)], b"ClH")?;
-    expect_sum(
-        &rt,
-        alloc,
-        &[(b"H", 0, 2), (b"C", 0, 0), (b"B", 0, 1)],
-        b"BH2",
-    )?;
-    expect_sum(
-        &rt,
-        alloc,
-        &[(b"C", 0, 5), (b"H", 0, 12), (b"C", 13, 1), (b"O", 0, 6)],
-        b"C5[13C]H12O6",
-    )?;
-    expect_sum(
-        &rt,
-        alloc,
-        &[(b"B", 0, 1), (b"H", 0, 3), (b"H", 2, 1), (b"C", 13, 1)],
-        b"[13C]H3[2H]B",
-    )?;
+    let rows: &[(&[(&[u8], u32, u32)], &[u8])] = &[
+        (
+            &[(b"C", 0, 1), (b"H", 0, 4), (b"C", 0, 1), (b"H", 0, 4)],
+            b"C2H8",
+        ),
+        (&[(b"O", 0, 6), (b"H", 0, 12), (b"C", 0, 6)], b"C6H12O6"),
+        (
+            &[(b"Br", 0, 1), (b"H", 0, 5), (b"C", 0, 2), (b"B", 0, 1)],
+            b"C2H5BBr",
+        ),
+        (&[(b"Na", 0, 1), (b"Cl", 0, 1)], b"ClNa"),
+        (&[(b"H", 0, 1), (b"Cl", 0, 1)], b"ClH"),
+        (&[(b"H", 0, 2), (b"C", 0, 0), (b"B", 0, 1)], b"BH2"),
+        (
+            &[(b"C", 0, 5), (b"H", 0, 12), (b"C", 13, 1), (b"O", 0, 6)],
+            b"C5[13C]H12O6",
+        ),
+        (
+            &[(b"B", 0, 1), (b"H", 0, 3), (b"H", 2, 1), (b"C", 13, 1)],
+            b"[13C]H3[2H]B",
+        ),
+    ];
+    for (parts, text) in rows {
+        expect_sum(&rt, rt.alloc(), parts, text)?;
+    }
     Ok(())
 }
 
 #[test]
 fn sums_are_within_the_limits(rt: HostRuntime) -> Result<(), Fail> {
-    let alloc = rt.alloc();
-    expect_sum(&rt, alloc, &[], b"-")?;
-    expect_sum(&rt, alloc, &[(b"C", 0, 0)], b"-")?;
-    expect_sum(&rt, alloc, &[(b"C", 0, 10_000)], b"C10000")?;
-    expect_sum(&rt, alloc, &[(b"C", 0, 10_001)], b"-")?;
-    expect_sum(&rt, alloc, &[(b"C", 0, 9_999), (b"C", 0, 2)], b"-")?;
-    expect_sum(
-        &rt,
-        alloc,
-        &[(b"C", 0, 10_000), (b"H", 0, 10_000)],
-        b"C10000H10000",
-    )?;
-    expect_sum(
-        &rt,
-        alloc,
-        &[(b"C", 0, 10_000), (b"H", 0, 9_999), (b"N", 0, 2)],
-        b"-",
-    )?;
-    expect_sum(
-        &rt,
-        alloc,
-        &[(b"C", 0, u32::MAX), (b"C", 0, u32::MAX)],
-        b"-",
-    )?;
+    let rows: &[(&[(&[u8], u32, u32)], &[u8])] = &[
+        (&[], b"-"),
+        (&[(b"C", 0, 0)], b"-"),
+        (&[(b"C", 0, 10_000)], b"C10000"),
+        (&[(b"C", 0, 10_001)], b"-"),
+        (&[(b"C", 0, 9_999), (b"C", 0, 2)], b"-"),
+        (&[(b"C", 0, 10_000), (b"H", 0, 10_000)], b"C10000H10000"),
+        (&[(b"C", 0, 10_000), (b"H", 0, 9_999), (b"N", 0, 2)], b"-"),
+        (&[(b"C", 0, u32::MAX), (b"C", 0, u32::MAX)], b"-"),
+    ];
+    for (parts, text) in rows {
+        expect_sum(&rt, rt.alloc(), parts, text)?;
+    }
     Ok(())
 }
 
@@ -138,6 +113,7 @@ fn parts_may_have_no_atom(rt: HostRuntime) -> Result<(), Fail> {
     assert_eq!(rt; parts.print()?.len(), 0);
     assert_eq!(rt; parts.atoms(), 0);
     assert_eq!(rt; parts.items().len(), 0);
+    assert!(rt; parts.clone()?.items().is_empty());
     assert!(rt; Formula::from_parts(parts).is_none());
     Ok(())
 }

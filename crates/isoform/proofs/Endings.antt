@@ -1,14 +1,17 @@
 -- What a run shows at the outside, ending by ending.
 use Rattle.std.proofs.Common.{◌≡◌, ℕ, ◌≤◌, List, [], ◌∷◌, ◌++◌, length, take, refl, sym, ap, ◌∙◌, subst, arith, inl, inr}
-use Rattle.std.specs.Prelude.{Option, Result, Ok, Err, IfOk}
+use Rattle.std.specs.Prelude.{Option, Result, Ok, Err, IfOk, MatchBool, ⊤}
 use Rattle.std.proofs.lemmas.List.{take_all, append-nil}
 use Rattle.outside_ports.specs.Files.{Files}
-use Rattle.isoform.specs.Answering.{◌>>=◌, or_refusal, Refuses}
+use Rattle.reader_answers.specs.Answers.{◌>>=◌}
+use Rattle.isoform.specs.Answering.{or_refusal, refusal_of}
+use Rattle.isoform.specs.InputFaults.{is_memory}
 use Rattle.isoform.specs.Words.{Request, request_of, table_of}
 use Rattle.isoform.specs.Answer.{answer, answer_of_request, answer_of_bytes, bytes_within}
 use Rattle.isoform.specs.Printed.{Writes, WritesFor}
 use Rattle.isoform.specs.Run.{Ending, OfFiles, Outside, Shows, IsTold, IsPut, file_names, table_of_request}
 use Rattle.isoform.specs.declared.input_fault.InputFault.{InputFault}
+use Rattle.isoform.specs.declared.input_fault.InputFault.TheVariants as input
 use Rattle.isoform.specs.declared.input_fault.InputFile.TheVariants as file
 use Rattle.isoform.specs.declared.refusal.Refusal.{Refusal}
 use Rattle.isoform.specs.declared.refusal.Refusal.TheVariants.{Input, ReadFault, WriteFault, Memory}
@@ -28,14 +31,16 @@ pub late_memory_shows : (answer : Result (List ℕ) Refusal) (names : List (List
 late_memory_shows answer names before after asks reads receives writes =
     memory_shows answer names before after (length names) (asks ∙ ap (λ n. before.asked ++ n) (sym (take_all (length names) names (omega arith)))) reads receives writes
 
--- the refusal of a part of the work, which may be want of memory, is that of the whole
-pub part_shows : (answer : Result (List ℕ) Refusal) (part : Result (List ℕ) InputFault) (names : List (List ℕ)) (before after : Outside) (refusal : Refusal) → Refuses refusal part → ((fault : InputFault) → part ≡ Err fault → answer ≡ Err (Input fault)) → after.asked ≡ before.asked ++ names → after.shelf_faults ≡ before.shelf_faults → after.received ≡ before.received → after.out_faults ≡ before.out_faults → Shows answer names before after (Err refusal)
-part_shows answer part names before after Memory refused whole asks reads receives writes =
+-- the fault of a part of the work, which may be want of memory, is the refusal of the whole
+pub part_shows : (answer : Result (List ℕ) Refusal) (part : Result (List ℕ) InputFault) (names : List (List ℕ))
+    (before after : Outside) (fault : InputFault) → MatchBool (is_memory fault) ⊤ (part ≡ Err fault) →
+    (part ≡ Err fault → answer ≡ Err (refusal_of fault)) → after.asked ≡ before.asked ++ names →
+    after.shelf_faults ≡ before.shelf_faults → after.received ≡ before.received → after.out_faults ≡ before.out_faults →
+    Shows answer names before after (Err (refusal_of fault))
+part_shows answer part names before after input.Memory refused whole asks reads receives writes =
     late_memory_shows answer names before after asks (omega (arith, reads)) receives writes
-part_shows answer part names before after (Input fault) refused whole asks reads receives writes =
-    input_shows answer names before after fault (whole fault refused) asks reads receives writes
-part_shows answer part names before after (ReadFault which) refused whole asks reads receives writes = absurd refused
-part_shows answer part names before after WriteFault refused whole asks reads receives writes = absurd refused
+part_shows answer part names before after fault refused whole asks reads receives writes =
+    input_shows answer names before after fault (whole refused) asks reads receives writes
 
 -- the answer where the file was fetched
 pub answer-fetched : (request : Request) (files : Files) (bytes : List ℕ) (part : Result (List ℕ) InputFault) → bytes_within file.Table 16777216 (files (table_of request)) ≡ Ok bytes → answer_of_bytes request bytes ≡ part → answer_of_request request files ≡ or_refusal part
@@ -53,12 +58,20 @@ pub writes_for : (ending : Ending) (held : Option Files) (asked : Result Request
 writes_for ending held asked request before after is given =
     subst (λ (r : Result Request InputFault). IfOk ending (λ _. OfFiles held (λ files. WritesFor r files before after))) is given
 
+-- what was given is refused before any name is asked
+refusal_shows : (before : Outside) (fault : InputFault) →
+    Shows (Err (refusal_of fault)) [] before before (Err (refusal_of fault))
+refusal_shows before input.Memory =
+    memory_shows (Err Memory) [] before before 0 (sym (append-nil before.asked)) (omega arith) refl refl
+refusal_shows before fault =
+    input_shows (Err (Input fault)) [] before before fault refl (sym (append-nil before.asked)) refl refl refl
+
 -- words that are refused show that
-pub refused_words_show : (words : List (List ℕ)) (files : Files) (before : Outside) (fault : InputFault) → Err fault ≡ request_of words → Shows (answer words files) (file_names words) before before (Err (Input fault))
+pub refused_words_show : (words : List (List ℕ)) (files : Files) (before : Outside) (fault : InputFault) → Err fault ≡ request_of words → Shows (answer words files) (file_names words) before before (Err (refusal_of fault))
 unfolding answer
 refused_words_show words files before fault is =
-    subst (λ (r : Result Request InputFault). Shows (or_refusal r >>= λ q. answer_of_request q files) (table_of_request r) before before (Err (Input fault))) is
-    (input_shows (Err (Input fault)) [] before before fault refl (sym (append-nil before.asked)) refl refl refl)
+    subst (λ (r : Result Request InputFault). Shows (or_refusal r >>= λ q. answer_of_request q files) (table_of_request r) before before (Err (refusal_of fault))) is
+    (refusal_shows before fault)
 
 -- a note was put, under other names of the same values
 pub put_as : {M : Type 0} (written : M → Option (List ℕ)) (faults : M → ℕ) (before middle after : M) (told note : List ℕ) → after ≡ middle → told ≡ note → IsPut told (written before) (faults before) (written middle) (faults middle) → IsPut note (written before) (faults before) (written after) (faults after)

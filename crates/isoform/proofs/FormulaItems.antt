@@ -1,47 +1,61 @@
 -- The table has the items of the formulas that are made of an alphabet.
-use Rattle.std.proofs.Common.{◌≡◌, ℕ, zero, suc, add-one, ◌+◌, ◌<◌, List, [], ◌∷◌, ◌++◌, length, take, get_or, map, refl, sym, ap, subst, arith}
+use Rattle.std.proofs.Common.{◌≡◌, ℕ, zero, suc, add-one, ◌+◌, ◌<◌, List, [], ◌∷◌, ◌++◌, length, take, get_or, map, sym, ap, subst, arith}
 use Rattle.std.specs.Prelude.{Option, Some, None, is_some, IsTrue, IfOk, IfSome, Result, Ok, Err}
 use Rattle.std.specs.List.{All, AllByRecursion, zip}
+use Rattle.std.proofs.lemmas.List.{length-map, get_or-map}
 use Rattle.std.proofs.lemmas.List.Elements.{All-from_recursion, recursion_from_All}
-use Rattle.element_table.specs.Elements.{TableEntries, ElementEntry, element_of}
-use Rattle.formula_text.specs.declared.item.Item.{Item}
+use Rattle.element_table.specs.Elements.{TableEntries}
+use Rattle.written_items.specs.declared.item.Item.{Item}
 use Rattle.formula_text.proofs.KnownItems.{HasItems-sum}
-use Rattle.formula_text.specs.Masses.{HasItems, item_isotope, isotope_if}
+use Rattle.formula_text.specs.Masses.{HasItems, item_isotope}
 use Rattle.formula_text.specs.Formulas.{IsSumOf}
-use Rattle.isoform.specs.Alphabet.{IsEntry}
-use Rattle.isoform.specs.declared.alphabet.Entry.{Entry}
+use Rattle.alphabet_text.specs.Alphabets.{IsEntryOf}
+use Rattle.alphabet_text.specs.declared.entries.AlphabetEntry.{AlphabetEntry}
 
--- the items of an alphabet with their counts
-abbrev pub parts_of : List Entry → List ℕ → List (Item × ℕ)
-parts_of alphabet counts = zip (map (λ e. e.item) alphabet) counts
+-- the table has an item
+abbrev pub IsKnown : TableEntries → Item → Type 0
+IsKnown table item = IsTrue (is_some (item_isotope table item))
 
-parts_of-suc : (alphabet : List Entry) (counts : List ℕ) (i : ℕ) (entry : Entry) → i < length alphabet → i < length counts → entry ≡ get_or alphabet i entry → parts_of (take (suc i) alphabet) (take (suc i) counts) ≡ parts_of (take i alphabet) (take i counts) ++ (entry.item, get_or counts i 0) ∷ []
-parts_of-suc [] counts i entry a b is = absurd (omega (arith, a))
-parts_of-suc (e ∷ alphabet) [] i entry a b is = absurd (omega (arith, b))
-parts_of-suc (e ∷ alphabet) (c ∷ counts) zero entry a b is = ap (λ (x : Entry). (x.item, c) ∷ []) (sym is)
-parts_of-suc (e ∷ alphabet) (c ∷ counts) (suc i) entry a b is =
-    ap (λ (ps : List (Item × ℕ)). (e.item, c) ∷ ps) (parts_of-suc alphabet counts i entry (omega (arith, a)) (omega (arith, b)) is)
+zip-suc : (items : List Item) (counts : List ℕ) (i : ℕ) (item : Item) → i < length items → i < length counts →
+    item ≡ get_or items i item →
+    zip (take (suc i) items) (take (suc i) counts) ≡ zip (take i items) (take i counts) ++ (item, get_or counts i 0) ∷ []
+zip-suc [] counts i item a b is = absurd (omega (arith, a))
+zip-suc (e ∷ items) [] i item a b is = absurd (omega (arith, b))
+zip-suc (e ∷ items) (c ∷ counts) zero item a b is = ap (λ (x : Item). (x, c) ∷ []) (sym is)
+zip-suc (e ∷ items) (c ∷ counts) (suc i) item a b is =
+    ap (λ (ps : List (Item × ℕ)). (e, c) ∷ ps) (zip-suc items counts i item (omega (arith, a)) (omega (arith, b)) is)
 
--- one more part
-pub parts_of-more : (alphabet : List Entry) (counts : List ℕ) (i : ℕ) (entry : Entry) → i < length alphabet → i < length counts → entry ≡ get_or alphabet i entry → parts_of (take (i + 1) alphabet) (take (i + 1) counts) ≡ parts_of (take i alphabet) (take i counts) ++ (entry.item, get_or counts i 0) ∷ []
-parts_of-more alphabet counts i entry a b is = rw add-one (parts_of-suc alphabet counts i entry a b is)
+-- one more item with its count
+pub zip-more : (items : List Item) (counts : List ℕ) (i : ℕ) (item : Item) → i < length items → i < length counts →
+    item ≡ get_or items i item →
+    zip (take (i + 1) items) (take (i + 1) counts) ≡ zip (take i items) (take i counts) ++ (item, get_or counts i 0) ∷ []
+zip-more items counts i item a b is = rw add-one (zip-suc items counts i item a b is)
 
--- the table has an isotope for an item of no label, where it has the element
-isotope_there : (found : Option ElementEntry) (label : ℕ) → IsTrue (is_some found) → label ≡ 0 → IsTrue (is_some (isotope_if found label))
-isotope_there None label there unlabelled = there
-isotope_there (Some element) label there unlabelled = rw unlabelled refl
+parts_known : (table : TableEntries) (items : List Item) (counts : List ℕ) → AllByRecursion (IsKnown table) items →
+    AllByRecursion (λ (p : Item × ℕ). IsKnown table p.0) (zip items counts)
+parts_known table [] counts known = tt
+parts_known table (item ∷ items) [] known = tt
+parts_known table (item ∷ items) (count ∷ counts) known = (known.0, parts_known table items counts known.1)
 
--- the table has the items of an alphabet
-parts_there : (table : TableEntries) (alphabet : List Entry) (counts : List ℕ) → AllByRecursion (IsEntry table) alphabet → AllByRecursion (λ (p : Item × ℕ). IsTrue (is_some (item_isotope table p.0))) (parts_of alphabet counts)
-parts_there table [] counts entries = tt
-parts_there table (entry ∷ alphabet) [] entries = tt
-parts_there table (entry ∷ alphabet) (count ∷ counts) entries =
-    (isotope_there (element_of table entry.item.symbol) entry.item.label entries.0.has_element entries.0.unlabelled, parts_there table alphabet counts entries.1)
+-- the table has the items of a formula that a call may have given, the sum of known items with their counts
+pub formula_known-given : {E : Type 0} (table : TableEntries) (items : List Item) (counts : List ℕ)
+    (parts : List (Item × ℕ)) (given : Result (Option (List (Item × ℕ))) E) → parts ≡ zip items counts →
+    All (IsKnown table) items → IfOk given (λ o. IfSome o (IsSumOf parts)) → IfOk given (λ o. IfSome o (HasItems table))
+formula_known-given table items counts parts (Err e) are known sum = sum
+formula_known-given table items counts parts (Ok None) are known sum = sum
+formula_known-given table items counts parts (Ok (Some formula)) are known sum =
+    let each : HasItems table (zip items counts) =
+    All-from_recursion (λ (p : Item × ℕ). IsKnown table p.0) (zip items counts)
+    (parts_known table items counts (recursion_from_All (IsKnown table) items known)) in
+    HasItems-sum table parts formula sum.formula sum.counts (subst (HasItems table) (sym are) each)
 
--- the table has the items of a formula that a call may have given, the sum of an alphabet's parts
-pub formula_there-given : {E : Type 0} (table : TableEntries) (alphabet : List Entry) (counts : List ℕ) (parts : List (Item × ℕ)) (given : Result (Option (List (Item × ℕ))) E) → parts ≡ parts_of alphabet counts → All (IsEntry table) alphabet → IfOk given (λ o. IfSome o (IsSumOf parts)) → IfOk given (λ o. IfSome o (HasItems table))
-formula_there-given table alphabet counts parts (Err e) are entries sum = sum
-formula_there-given table alphabet counts parts (Ok None) are entries sum = sum
-formula_there-given table alphabet counts parts (Ok (Some formula)) are entries sum =
-    let known : HasItems table (parts_of alphabet counts) = All-from_recursion (λ (p : Item × ℕ). IsTrue (is_some (item_isotope table p.0))) (parts_of alphabet counts) (parts_there table alphabet counts (recursion_from_All (IsEntry table) alphabet entries)) in
-    HasItems-sum table parts formula sum.formula sum.counts (subst (HasItems table) (sym are) known)
+no_entry : AlphabetEntry
+no_entry = record { item = record { symbol = []; label = 0 }; mass = 0; limit = record { low = 0; high = 0 } }
+
+-- the table has the items of an alphabet of its own
+pub alphabet_known : (table : TableEntries) (alphabet : List AlphabetEntry) → All (IsEntryOf table) alphabet →
+    All (IsKnown table) (map (λ e. e.item) alphabet)
+alphabet_known table alphabet entries = λ k d h.
+    let here : k < length alphabet = omega (arith, h, length-map alphabet (λ (e : AlphabetEntry). e.item)) in
+    subst (IsKnown table) (sym (get_or-map (λ (e : AlphabetEntry). e.item) alphabet k no_entry d here))
+    (entries k no_entry here).known

@@ -1,11 +1,7 @@
 pub mod ToldFiles
-pub mod PutParts
 pub mod Endings
-pub mod FirstPlace
-pub mod CutText
-pub mod EntriesInOrder
-pub mod AlphabetWalk
 pub mod FormulaItems
 pub mod FormulaLines
 pub mod ReportLines
 pub mod AlphabetMasses
+pub mod GivenFaults

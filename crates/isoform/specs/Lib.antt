@@ -1,7 +1,7 @@
+pub mod InputFaults
 pub mod Answering
 pub mod Words
 pub mod Requested
-pub mod Alphabet
 pub mod Candidates
 pub mod Report
 pub mod Answer

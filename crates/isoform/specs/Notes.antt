@@ -1,25 +1,28 @@
 -- The note and the status of a refusal.
 use Rattle.std.specs.Prelude.{ℕ, List, [], ◌∷◌, ◌++◌, codes}
 use Rattle.std.specs.Fmt.{decimal}
-use Rattle.formula_text.specs.declared.fault.FormulaFault.{FormulaFault}
-use Rattle.formula_text.specs.declared.fault.FormulaFault.TheVariants as fault
+use Rattle.element_table.specs.TableFaults.{table_fault_words}
+use Rattle.alphabet_text.specs.AlphabetFaults.{alphabet_fault_words}
+use Rattle.formula_text.specs.FormulaFaults.{formula_fault_words}
 use Rattle.formula_text.specs.PrintedText.{printed}
 use Rattle.isoform.specs.declared.input_fault.OptionName.{OptionName}
 use Rattle.isoform.specs.declared.input_fault.OptionName.TheVariants.{Mass, Da, Coverage}
 use Rattle.isoform.specs.declared.input_fault.InputFault.{InputFault}
 use Rattle.isoform.specs.declared.input_fault.InputFault.TheVariants.{Words, Value, FileLimit, Table, Alphabet, Formula, CandidateLimit, Wide}
+use Rattle.isoform.specs.declared.input_fault.InputFault.TheVariants as input
 use Rattle.isoform.specs.declared.refusal.Refusal.{Refusal}
 use Rattle.isoform.specs.declared.refusal.Refusal.TheVariants.{Input, ReadFault, WriteFault, Memory}
 
 abbrev pub status_of_fault : InputFault → ℕ
 status_of_fault Words = 2
 status_of_fault (Value option) = 2
-status_of_fault Table = 3
-status_of_fault Alphabet = 5
+status_of_fault (Table fault) = 3
+status_of_fault (Alphabet fault) = 5
 status_of_fault (Formula fault) = 5
 status_of_fault (FileLimit which) = 6
 status_of_fault (CandidateLimit peak) = 6
 status_of_fault (Wide formula) = 6
+status_of_fault input.Memory = 9
 
 abbrev pub status_of : Refusal → ℕ
 status_of (Input fault) = status_of_fault fault
@@ -32,25 +35,17 @@ option_text Mass = codes "--mass"
 option_text Da = codes "--da"
 option_text Coverage = codes "--coverage"
 
--- what is wrong with the text of a formula
-abbrev pub formula_words : FormulaFault → List ℕ
-formula_words (fault.BadText place) = codes "bad text at " ++ decimal place
-formula_words (fault.UnknownSymbol place) = codes "unknown symbol at " ++ decimal place
-formula_words fault.TooManyAtoms = codes "too many atoms"
-formula_words fault.TooManyElements = codes "too many elements"
-formula_words fault.Empty = codes "empty"
-formula_words (fault.Memory e) = codes "memory"
-
 -- what a note says of a fault, where the table file has this name
 abbrev pub fault_message : List ℕ → InputFault → List ℕ
 fault_message table Words = codes "words"
 fault_message table (Value option) = codes "value: " ++ option_text option
 fault_message table (FileLimit which) = codes "limit: file " ++ table
-fault_message table Table = codes "table"
-fault_message table Alphabet = codes "alphabet"
-fault_message table (Formula fault) = codes "formula: " ++ formula_words fault
+fault_message table (Table fault) = codes "table: " ++ table_fault_words fault
+fault_message table (Alphabet fault) = codes "alphabet: " ++ alphabet_fault_words fault
+fault_message table (Formula fault) = codes "formula: " ++ formula_fault_words fault
 fault_message table (CandidateLimit peak) = codes "limit: candidates of peak " ++ decimal peak
 fault_message table (Wide formula) = codes "limit: wide of " ++ printed formula
+fault_message table input.Memory = codes "memory"
 
 -- what a note says
 abbrev pub message_of : List ℕ → Refusal → List ℕ

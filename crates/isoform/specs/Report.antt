@@ -1,22 +1,17 @@
 -- The lines of a report. Masses are printed with 12 decimals.
-use Rattle.std.specs.Prelude.{ℕ, ◌+◌, ◌-◌, ◌==◌, nat_lt, List, [], ◌∷◌, ◌++◌, length, take, position, if◌then◌else◌, codes}
-use Rattle.std.specs.Option.{option_map_or}
+use Rattle.std.specs.Prelude.{ℕ, ◌-◌, nat_lt, List, [], ◌∷◌, ◌++◌, take, if◌then◌else◌, codes}
 use Rattle.std.specs.List.{join_with_byte, flat_map}
 use Rattle.std.specs.Fmt.{decimal}
 use Rattle.fixed_decimal.specs.Decimal.{decimal_text}
 use Rattle.element_table.specs.Elements.{TableEntries}
-use Rattle.formula_text.specs.declared.item.Item.{Item}
+use Rattle.written_items.specs.declared.item.Item.{Item}
 use Rattle.formula_text.specs.PrintedText.{printed}
 use Rattle.formula_text.specs.Masses.{mass_of}
-use Rattle.cover_certificate.specs.Covers.{MemberEntry, CoverEntries}
+use Rattle.cover_certificate.specs.FormulaCovers.{MemberEntry, CoverEntries}
 
 -- words with one space between them, and a line feed
 abbrev pub line : List (List ℕ) → List ℕ
 line words = join_with_byte 32 words ++ 10 ∷ []
-
--- the length of the first line of a text, its line feed included: the whole text, where it has none
-abbrev pub first_line_len : List ℕ → ℕ
-first_line_len text = option_map_or (λ place. place + 1) (position (λ byte. byte == 10) text) (length text)
 
 -- a mass with 12 decimals
 abbrev pub mass_text : ℕ → List ℕ
@@ -46,6 +41,7 @@ envelope_head cover =
     line (codes "envelope" ∷ printed cover.formula ∷ [])
     ++ line (codes "coverage" ∷ decimal cover.coverage ∷ [])
     ++ line (codes "size" ∷ decimal cover.size ∷ [])
+    ++ line (codes "bound" ∷ decimal cover.bound ∷ [])
     ++ line (codes "threshold" ∷ decimal cover.threshold ∷ [])
 
 -- the line of an isotopologue: its text, its mass, and the bounds of its probability

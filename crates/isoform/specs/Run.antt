@@ -2,7 +2,7 @@
 use Rattle.std.specs.Prelude.{◌≡◌, ℕ, ◌≤◌, ◌++◌, ◌⊎◌, List, [], ◌∷◌, take, Option, IfSome, Result, Ok, Err, IsOk, IfOk}
 use Rattle.outside_ports.specs.Files.{Files}
 use Rattle.outside_ports.specs.Faults.{Rose}
-use Rattle.outside_ports.specs.Putting.{append_written}
+use Rattle.std.specs.Io.KnownBytes.{append_known}
 use Rattle.isoform.specs.Answer.{answer}
 use Rattle.isoform.specs.Notes.{status_of, note_of}
 use Rattle.isoform.specs.Words.{Request, request_of, table_of}
@@ -64,8 +64,8 @@ AsksNames names before after ending = after.asked ≡ before.asked ++ names
 
 -- `out` received the whole report, with a write fault some first bytes of it, and else nothing
 abbrev pub Receives : Result (List ℕ) Refusal → Outside → Outside → Ending → Type 0
-Receives answer before after (Ok _) = IfOk answer (λ report. after.received ≡ append_written before.received report)
-Receives answer before after (Err WriteFault) = IfOk answer (λ report. (taken : ℕ) × (after.received ≡ append_written before.received (take taken report)))
+Receives answer before after (Ok _) = IfOk answer (λ report. after.received ≡ append_known before.received report)
+Receives answer before after (Err WriteFault) = IfOk answer (λ report. (taken : ℕ) × (after.received ≡ append_known before.received (take taken report)))
 Receives answer before after ending = after.received ≡ before.received
 
 -- what a run whose answer is this shows at the outside, with the names that it asks
@@ -100,8 +100,8 @@ IsTold came told = (told ≡ came) ⊎ ((told ≡ Memory) × (came ≡ WriteFaul
 -- a note was received, or some first bytes of it where the count of faults rose
 abbrev pub IsPut : List ℕ → Option (List ℕ) → ℕ → Option (List ℕ) → ℕ → Type 0
 IsPut note before faults_before after faults_after =
-    ((after ≡ append_written before note) × (faults_after ≡ faults_before))
-    ⊎ (Rose faults_before faults_after × (faults_before ≤ faults_after) × ((taken : ℕ) × (after ≡ append_written before (take taken note))))
+    ((after ≡ append_known before note) × (faults_after ≡ faults_before))
+    ⊎ (Rose faults_before faults_after × (faults_before ≤ faults_after) × ((taken : ℕ) × (after ≡ append_known before (take taken note))))
 
 -- the notes received nothing where the report is written, and else the note, or some first bytes of
 -- it where their count of faults rose

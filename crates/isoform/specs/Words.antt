@@ -3,7 +3,7 @@ use Rattle.std.specs.Prelude.{ℕ, ◌&&◌, ◌==◌, not, Bool, false, nat_le,
 use Rattle.std.specs.Str.{bytes_eq}
 use Rattle.fixed_decimal.specs.Decimal.{read_decimal}
 use Rattle.fixed_decimal.specs.declared.DecimalFault.{DecimalFault}
-use Rattle.isoform.specs.Answering.{◌>>=◌}
+use Rattle.reader_answers.specs.Answers.{◌>>=◌}
 use Rattle.isoform.specs.declared.input_fault.OptionName.{OptionName}
 use Rattle.isoform.specs.declared.input_fault.OptionName.TheVariants.{Mass, Da, Coverage}
 use Rattle.isoform.specs.declared.input_fault.InputFault.{InputFault}

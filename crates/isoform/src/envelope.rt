@@ -1,4 +1,4 @@
-// The report of an envelope.
+//! The report of an envelope.
 ghost use Rattle.std.specs.Prelude.{◌≡◌, ◌++◌, ◌∷◌, [], OnOk, IfOk};
 ghost use Rattle.std.specs.Fmt.{decimal};
 ghost use Rattle.isoform.specs.Report.{envelope_head, envelope_report, member_line};
@@ -31,6 +31,8 @@ fn envelope_head(alloc: Global, cover: &Cover) -> Result<Vec<u8>, AllocError>
     push_number(&mut head, cover.coverage(), b'\n')?;
     push_word(&mut head, b"size", b' ')?;
     push_number(&mut head, cover.size(), b'\n')?;
+    push_word(&mut head, b"bound", b' ')?;
+    push_number(&mut head, cover.bound(), b'\n')?;
     push_word(&mut head, b"threshold", b' ')?;
     push_number(&mut head, cover.threshold(), b'\n')?;
     Ok(head)

@@ -1,4 +1,4 @@
-// Whole runs of `envelope`: the worked examples, and what is refused.
+//! Whole runs of `envelope`: the worked examples, and what is refused.
 use crate::run;
 use crate::tests::{ELEMENTS, shelf_with};
 use outside_ports::MemorySink;
@@ -13,6 +13,18 @@ const EQUAL: &[u8] =
 /// Sixteen isotopes of equal weight.
 const SIXTEEN: &[u8] =
     b"symbol,number,mass,abundance,valence\ne-,0,0.000548579909,0,0\nZ,30,30,0.05,1\nZ,31,31,0.05,1\nZ,32,32,0.05,1\nZ,33,33,0.05,1\nZ,34,34,0.05,1\nZ,35,35,0.05,1\nZ,36,36,0.05,1\nZ,37,37,0.05,1\nZ,38,38,0.05,1\nZ,39,39,0.05,1\nZ,40,40,0.05,1\nZ,41,41,0.05,1\nZ,42,42,0.05,1\nZ,43,43,0.05,1\nZ,44,44,0.05,1\nZ,45,45,0.05,1\n";
+
+/// Six isotopes of equal weight.
+const SIX: &[u8] =
+    b"symbol,number,mass,abundance,valence\ne-,0,0.000548579909,0,0\nV,60,60,0.1,1\nV,61,61,0.1,1\nV,62,62,0.1,1\nV,63,63,0.1,1\nV,64,64,0.1,1\nV,65,65,0.1,1\n";
+
+/// Abundances of 12 decimals.
+const FINE: &[u8] =
+    b"symbol,number,mass,abundance12,valence\ne-,0,0.000548579909,0,0\nQ,1,1,0.000000000001,1\nQ,2,2,0.999999999999,1\n";
+
+/// The same with the header of version 1.
+const FINE_OF_VERSION_1: &[u8] =
+    b"symbol,number,mass,abundance,valence\ne-,0,0.000548579909,0,0\nQ,1,1,0.000000000001,1\nQ,2,2,0.999999999999,1\n";
 
 /// What a run is given, and what it must answer.
 #[derive(Clone, Copy)]
@@ -74,7 +86,7 @@ fn covers_of_formulas(rt: HostRuntime) -> Result<(), Fail> {
             coverage: "0.5",
             table: EQUAL,
             status: 0,
-            out: b"envelope X2\ncoverage 500000000000000000\nsize 1\nthreshold 250000000000000000\nisotopologue [10X][11X] 21.000000000000 500000000000000000 500000000000000000\n",
+            out: b"envelope X2\ncoverage 500000000000000000\nsize 1\nbound 1\nthreshold 250000000000000000\nisotopologue [10X][11X] 21.000000000000 500000000000000000 500000000000000000\n",
             note: b"",
         },
         // The outer two tie, and stand in lexicographic order.
@@ -83,7 +95,7 @@ fn covers_of_formulas(rt: HostRuntime) -> Result<(), Fail> {
             coverage: "0.75",
             table: EQUAL,
             status: 0,
-            out: b"envelope X2\ncoverage 750000000000000000\nsize 2\nthreshold 125000000000000000\nisotopologue [10X][11X] 21.000000000000 500000000000000000 500000000000000000\nisotopologue [11X]2 22.000000000000 250000000000000000 250000000000000000\n",
+            out: b"envelope X2\ncoverage 750000000000000000\nsize 2\nbound 2\nthreshold 125000000000000000\nisotopologue [10X][11X] 21.000000000000 500000000000000000 500000000000000000\nisotopologue [11X]2 22.000000000000 250000000000000000 250000000000000000\n",
             note: b"",
         },
         // The greatest coverage, and the least.
@@ -92,7 +104,7 @@ fn covers_of_formulas(rt: HostRuntime) -> Result<(), Fail> {
             coverage: "0.999999",
             table: EQUAL,
             status: 0,
-            out: b"envelope X2\ncoverage 999999000000000000\nsize 3\nthreshold 125000000000000000\nisotopologue [10X][11X] 21.000000000000 500000000000000000 500000000000000000\nisotopologue [11X]2 22.000000000000 250000000000000000 250000000000000000\nisotopologue [10X]2 20.000000000000 250000000000000000 250000000000000000\n",
+            out: b"envelope X2\ncoverage 999999000000000000\nsize 3\nbound 3\nthreshold 125000000000000000\nisotopologue [10X][11X] 21.000000000000 500000000000000000 500000000000000000\nisotopologue [11X]2 22.000000000000 250000000000000000 250000000000000000\nisotopologue [10X]2 20.000000000000 250000000000000000 250000000000000000\n",
             note: b"",
         },
         Case {
@@ -100,7 +112,7 @@ fn covers_of_formulas(rt: HostRuntime) -> Result<(), Fail> {
             coverage: "0.000000000000000001",
             table: EQUAL,
             status: 0,
-            out: b"envelope X2\ncoverage 1\nsize 1\nthreshold 250000000000000000\nisotopologue [10X][11X] 21.000000000000 500000000000000000 500000000000000000\n",
+            out: b"envelope X2\ncoverage 1\nsize 1\nbound 1\nthreshold 250000000000000000\nisotopologue [10X][11X] 21.000000000000 500000000000000000 500000000000000000\n",
             note: b"",
         },
         // The lower bounds of two thirds just miss the coverage.
@@ -109,7 +121,7 @@ fn covers_of_formulas(rt: HostRuntime) -> Result<(), Fail> {
             coverage: "0.666666666666666667",
             table: EQUAL,
             status: 0,
-            out: b"envelope Y\ncoverage 666666666666666667\nsize 3\nthreshold 166666666666666667\nisotopologue [22Y] 22.000000000000 333333333333333333 333333333333333334\nisotopologue [21Y] 21.000000000000 333333333333333333 333333333333333334\nisotopologue [20Y] 20.000000000000 333333333333333333 333333333333333334\n",
+            out: b"envelope Y\ncoverage 666666666666666667\nsize 3\nbound 2\nthreshold 166666666666666667\nisotopologue [22Y] 22.000000000000 333333333333333333 333333333333333334\nisotopologue [21Y] 21.000000000000 333333333333333333 333333333333333334\nisotopologue [20Y] 20.000000000000 333333333333333333 333333333333333334\n",
             note: b"",
         },
         // Two elements.
@@ -118,7 +130,7 @@ fn covers_of_formulas(rt: HostRuntime) -> Result<(), Fail> {
             coverage: "0.99",
             table: ELEMENTS,
             status: 0,
-            out: b"envelope CO2\ncoverage 990000000000000000\nsize 2\nthreshold 7691389404043515\nisotopologue [12C][16O]2 43.989829239140 984497843717570000 984497843717570000\nisotopologue [13C][16O]2 44.993184074210 10648061182430000 10648061182430000\n",
+            out: b"envelope CO2\ncoverage 990000000000000000\nsize 2\nbound 2\nthreshold 7691389404043515\nisotopologue [12C][16O]2 43.989829239140 984497843717570000 984497843717570000\nisotopologue [13C][16O]2 44.993184074210 10648061182430000 10648061182430000\n",
             note: b"",
         },
         // Items that repeat are added up, and printed in Hill order.
@@ -127,7 +139,42 @@ fn covers_of_formulas(rt: HostRuntime) -> Result<(), Fail> {
             coverage: "0.9",
             table: ELEMENTS,
             status: 0,
-            out: b"envelope CO2\ncoverage 900000000000000000\nsize 1\nthreshold 492248921858785000\nisotopologue [12C][16O]2 43.989829239140 984497843717570000 984497843717570000\n",
+            out: b"envelope CO2\ncoverage 900000000000000000\nsize 1\nbound 1\nthreshold 492248921858785000\nisotopologue [12C][16O]2 43.989829239140 984497843717570000 984497843717570000\n",
+            note: b"",
+        },
+        // Labelled atoms are in the formula and the mass, and not in the isotopologue's text.
+        Case {
+            formula: "[13C]6O",
+            coverage: "0.99",
+            table: ELEMENTS,
+            status: 0,
+            out: b"envelope [13C]6O\ncoverage 990000000000000000\nsize 1\nbound 1\nthreshold 498785000000000000\nisotopologue [16O] 94.015043629990 997570000000000000 997570000000000000\n",
+            note: b"",
+        },
+        Case {
+            formula: "[013C]6",
+            coverage: "0.5",
+            table: ELEMENTS,
+            status: 0,
+            out: b"envelope [13C]6\ncoverage 500000000000000000\nsize 1\nbound 1\nthreshold 500000000000000000\nisotopologue - 78.020129010420 1000000000000000000 1000000000000000000\n",
+            note: b"",
+        },
+        // Size and bound differ: three of six equal isotopes have the half, but not by their lower bounds.
+        Case {
+            formula: "V",
+            coverage: "0.5",
+            table: SIX,
+            status: 0,
+            out: b"envelope V\ncoverage 500000000000000000\nsize 4\nbound 3\nthreshold 83333333333333333\nisotopologue [65V] 65.000000000000 166666666666666666 166666666666666667\nisotopologue [64V] 64.000000000000 166666666666666666 166666666666666667\nisotopologue [63V] 63.000000000000 166666666666666666 166666666666666667\nisotopologue [62V] 62.000000000000 166666666666666666 166666666666666667\n",
+            note: b"",
+        },
+        // A table of version 2.
+        Case {
+            formula: "Q",
+            coverage: "0.5",
+            table: FINE,
+            status: 0,
+            out: b"envelope Q\ncoverage 500000000000000000\nsize 1\nbound 1\nthreshold 499999999999500000\nisotopologue [2Q] 2.000000000000 999999999999000000 999999999999000000\n",
             note: b"",
         },
         // The isotope of weight 0 takes no part.
@@ -136,7 +183,7 @@ fn covers_of_formulas(rt: HostRuntime) -> Result<(), Fail> {
             coverage: "0.9",
             table: EQUAL,
             status: 0,
-            out: b"envelope V2\ncoverage 900000000000000000\nsize 2\nthreshold 281250000000000000\nisotopologue [32V]2 64.000000000000 562500000000000000 562500000000000000\nisotopologue [30V][32V] 62.000000000000 375000000000000000 375000000000000000\n",
+            out: b"envelope V2\ncoverage 900000000000000000\nsize 2\nbound 2\nthreshold 281250000000000000\nisotopologue [32V]2 64.000000000000 562500000000000000 562500000000000000\nisotopologue [30V][32V] 62.000000000000 375000000000000000 375000000000000000\n",
             note: b"",
         },
     ];
@@ -170,12 +217,14 @@ fn coverages_out_of_range_are_refused(rt: HostRuntime) -> Result<(), Fail> {
 
 #[test]
 fn formulas_with_a_fault_are_refused(rt: HostRuntime) -> Result<(), Fail> {
-    let cases: [(&str, &[u8]); 9] = [
+    let cases: [(&str, &[u8]); 11] = [
         ("H0", b"isoform: formula: empty\n"),
         ("Qa", b"isoform: formula: unknown symbol at 0\n"),
         ("COQa", b"isoform: formula: unknown symbol at 2\n"),
         ("C2h", b"isoform: formula: bad text at 2\n"),
-        ("[13C]", b"isoform: formula: bad text at 0\n"),
+        ("[14C]", b"isoform: formula: unknown isotope at 0\n"),
+        ("O[0C]", b"isoform: formula: unknown isotope at 1\n"),
+        ("[13C", b"isoform: formula: bad text at 4\n"),
         ("2C", b"isoform: formula: bad text at 0\n"),
         ("C10001", b"isoform: formula: too many atoms\n"),
         ("C10000H10000O", b"isoform: formula: too many atoms\n"),
@@ -200,15 +249,21 @@ fn formulas_with_a_fault_are_refused(rt: HostRuntime) -> Result<(), Fail> {
 
 #[test]
 fn a_table_with_a_fault_comes_before_the_formula(rt: HostRuntime) -> Result<(), Fail> {
-    let case = Case {
-        formula: "H0",
-        coverage: "0.5",
-        table: b"",
-        status: 3,
-        out: b"",
-        note: b"isoform: table\n",
-    };
-    check_cases(&rt, rt.alloc(), &[case])?;
+    let cases: [(&[u8], &[u8]); 2] = [
+        (b"", b"isoform: table: record 1: header\n"),
+        (FINE_OF_VERSION_1, b"isoform: table: record 3: abundance\n"),
+    ];
+    for (table, note) in cases {
+        let case = Case {
+            formula: "H0",
+            coverage: "0.5",
+            table,
+            status: 3,
+            out: b"",
+            note,
+        };
+        check_cases(&rt, rt.alloc(), &[case])?;
+    }
     Ok(())
 }
 

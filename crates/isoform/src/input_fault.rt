@@ -1,9 +1,13 @@
-// What is wrong with what the program was given: its words, and what they name.
+//! What is wrong with what the program was given: its words, and what they name.
 ghost use Rattle.std.specs.Prelude.{◌≡◌, ◌++◌, ◌∷◌, [], IfOk, codes, string_bytes};
 ghost use Rattle.formula_text.specs.PrintedText.{printed};
-ghost use Rattle.isoform.specs.Notes.{note_of, status_of_fault, option_text, formula_words};
+ghost use Rattle.isoform.specs.Notes.{note_of, status_of_fault, option_text};
+ghost use Rattle.isoform.specs.InputFaults.{of_table_fault, of_alphabet_fault, of_formula_fault};
+ghost use Rattle.isoform.specs.declared.input_fault.InputFault.TheVariants.{Memory};
 ghost use Rattle.isoform.specs.declared.refusal.Refusal.TheVariants.{Input};
 
+use alphabet_text::AlphabetFault;
+use element_table::TableFault;
 use formula_text::{Formula, FormulaFault};
 use std::alloc::{AllocError, Global};
 
@@ -47,17 +51,59 @@ pub enum InputFault {
     Value(OptionName),
     /// A file is longer than its limit.
     FileLimit(InputFile),
-    /// The table's bytes have a fault.
-    Table,
-    /// The alphabet has another form, a symbol that the table doesn't have or one twice, or more
-    /// than 20 symbols.
-    Alphabet,
+    /// The table's bytes have a fault, which is never want of memory.
+    Table(TableFault),
+    /// The text of the alphabet has a fault, which is never want of memory.
+    Alphabet(AlphabetFault),
     /// The text of the formula has a fault, which is never want of memory.
     Formula(FormulaFault),
     /// The peak has more than 1,048,576 candidates.
     CandidateLimit { peak: u64 },
     /// The formula has more than 1,048,576 isotopologues.
     Wide(Formula),
+    /// Want of memory.
+    Memory,
+}
+
+impl From<AllocError> for InputFault {
+    ghost from_gives = { λ _ fault. fault ≡ Memory };
+
+    fn from(_: AllocError) -> InputFault {
+        InputFault::Memory
+    }
+}
+
+impl From<TableFault> for InputFault {
+    ghost from_gives = { λ e fault. fault ≡ of_table_fault e };
+
+    fn from(fault: TableFault) -> InputFault {
+        match fault {
+            TableFault::Memory(_) => InputFault::Memory,
+            fault => InputFault::Table(fault),
+        }
+    }
+}
+
+impl From<AlphabetFault> for InputFault {
+    ghost from_gives = { λ e fault. fault ≡ of_alphabet_fault e };
+
+    fn from(fault: AlphabetFault) -> InputFault {
+        match fault {
+            AlphabetFault::Memory => InputFault::Memory,
+            fault => InputFault::Alphabet(fault),
+        }
+    }
+}
+
+impl From<FormulaFault> for InputFault {
+    ghost from_gives = { λ e fault. fault ≡ of_formula_fault e };
+
+    fn from(fault: FormulaFault) -> InputFault {
+        match fault {
+            FormulaFault::Memory(_) => InputFault::Memory,
+            fault => InputFault::Formula(fault),
+        }
+    }
 }
 
 impl InputFault {
@@ -67,9 +113,10 @@ impl InputFault {
     {
         match self {
             InputFault::Words | InputFault::Value(_) => 2,
-            InputFault::Table => 3,
-            InputFault::Alphabet | InputFault::Formula(_) => 5,
+            InputFault::Table(_) => 3,
+            InputFault::Alphabet(_) | InputFault::Formula(_) => 5,
             InputFault::FileLimit(_) | InputFault::CandidateLimit { .. } | InputFault::Wide(_) => 6,
+            InputFault::Memory => 9,
         }
     }
 
@@ -86,32 +133,25 @@ impl InputFault {
             InputFault::FileLimit(InputFile::Table) => {
                 format!(in alloc; "isoform: limit: file {table}\n")
             }
-            InputFault::Table => String::from_str(alloc, "isoform: table\n"),
-            InputFault::Alphabet => String::from_str(alloc, "isoform: alphabet\n"),
+            InputFault::Table(fault) => {
+                let words = fault.words(alloc)?;
+                format!(in alloc; "isoform: table: {words}\n")
+            }
+            InputFault::Alphabet(fault) => {
+                let words = fault.words(alloc)?;
+                format!(in alloc; "isoform: alphabet: {words}\n")
+            }
             InputFault::Formula(fault) => {
-                let words = formula_words(alloc, fault)?;
+                let words = fault.words(alloc)?;
                 format!(in alloc; "isoform: formula: {words}\n")
             }
             InputFault::CandidateLimit { peak } => {
                 format!(in alloc; "isoform: limit: candidates of peak {peak}\n")
             }
             InputFault::Wide(formula) => return wide_note(alloc, formula),
+            InputFault::Memory => String::from_str(alloc, "isoform: memory\n"),
         }?;
         Ok(note.into_bytes())
-    }
-}
-
-/// What is wrong with the text of a formula.
-fn formula_words(alloc: Global, fault: &FormulaFault) -> Result<String, AllocError>
-    ensures { IfOk result (λ words. string_bytes words ≡ formula_words fault.now) }
-{
-    match fault {
-        FormulaFault::BadText { place } => format!(in alloc; "bad text at {place}"),
-        FormulaFault::UnknownSymbol { place } => format!(in alloc; "unknown symbol at {place}"),
-        FormulaFault::TooManyAtoms => String::from_str(alloc, "too many atoms"),
-        FormulaFault::TooManyElements => String::from_str(alloc, "too many elements"),
-        FormulaFault::Empty => String::from_str(alloc, "empty"),
-        FormulaFault::Memory(_) => String::from_str(alloc, "memory"),
     }
 }
 

@@ -10,7 +10,6 @@
 //! on `outside_ports` for its devices. Nothing stands above it. It gives [`cover_of`] and its types out too.
 #![tactic(auto)]
 
-mod alphabet;
 mod answer;
 mod candidates;
 mod envelope;

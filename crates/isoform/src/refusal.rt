@@ -1,6 +1,7 @@
-// Why a run ends without its report, and the note that it leaves.
+//! Why a run ends without its report, and the note that it leaves.
 ghost use Rattle.std.specs.Prelude.{◌≡◌, IfOk};
 ghost use Rattle.isoform.specs.Notes.{note_of, status_of};
+ghost use Rattle.isoform.specs.Answering.{refusal_of};
 ghost use Rattle.isoform.specs.declared.refusal.Refusal.TheVariants.{Memory};
 
 use crate::input_fault::{InputFault, InputFile};
@@ -14,7 +15,7 @@ pub const MEMORY_NOTE: &[u8] = b"isoform: memory\n";
 /// Why a run ends without its report.
 #[derive(Debug, Drop)]
 pub enum Refusal {
-    /// What the program was given is refused.
+    /// What the program was given is refused, by a fault that isn't want of memory.
     Input(InputFault),
     /// A file could not be read.
     ReadFault(InputFile),
@@ -29,6 +30,17 @@ impl From<AllocError> for Refusal {
 
     fn from(_: AllocError) -> Refusal {
         Refusal::Memory
+    }
+}
+
+impl From<InputFault> for Refusal {
+    ghost from_gives = { λ e refusal. refusal ≡ refusal_of e };
+
+    fn from(fault: InputFault) -> Refusal {
+        match fault {
+            InputFault::Memory => Refusal::Memory,
+            fault => Refusal::Input(fault),
+        }
     }
 }
 

@@ -1,4 +1,4 @@
-// The lines of a report.
+//! The lines of a report.
 ghost use Rattle.std.specs.Prelude.{◌≡◌, ◌++◌, ◌∷◌, [], OnOk, IfOk};
 ghost use Rattle.formula_text.specs.Masses.{HasItems};
 ghost use Rattle.isoform.specs.Report.{formula_line, report_head, mass_text, difference_text};

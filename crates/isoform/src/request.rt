@@ -1,4 +1,4 @@
-// What the program's words can ask for.
+//! What the program's words can ask for.
 ghost use Rattle.std.specs.Prelude.{◌≤◌};
 ghost use Rattle.isoform.specs.declared.request.TheConstants.{GREATEST_MASS, GREATEST_TOLERANCE, GREATEST_COVERAGE};
 

@@ -1,15 +1,13 @@
-// The program: from its words and a shelf of files to an output, notes and a status.
-ghost use Rattle.std.specs.Prelude.{◌+◌, ◌==◌, length, position, IfSome, ◌≡◌, ◌≢◌, ◌<◌, ◌≤◌, ◌⊎◌, ◌∷◌, [], map, string_bytes, List, Option, Result, Ok, Err, IfOk, IfErr, IsOkAnd};
+//! The program: from its words and a shelf of files to an output, notes and a status.
+ghost use Rattle.std.specs.Prelude.{◌≡◌, ◌≢◌, ◌<◌, ◌≤◌, ◌⊎◌, ◌∷◌, [], map, string_bytes, List, Option, Result, Ok, Err, IfOk, IfErr, IsOkAnd};
 ghost use Rattle.outside_ports.specs.Files.{Files};
 ghost use Rattle.outside_ports.specs.Faults.{Rose};
-ghost use Rattle.outside_ports.specs.Putting.{append_written, AppendsPiece, CountsPut};
-ghost use Rattle.isoform.specs.Answering.{Gives};
+ghost use Rattle.std.specs.Io.KnownBytes.{append_known};
 ghost use Rattle.isoform.specs.Answer.{answer, answer_of_request, answer_of_bytes, bytes_within};
 ghost use Rattle.isoform.specs.Notes.{note_of, status_of};
 ghost use Rattle.isoform.specs.Words.{request_of, table_of};
 ghost use Rattle.isoform.specs.Requested.{requested};
 ghost use Rattle.isoform.specs.Printed.{Writes, WritesFor};
-ghost use Rattle.isoform.specs.Report.{first_line_len};
 ghost use Rattle.isoform.specs.Run.{Ending, OfFiles, Outside, Shows, TellsNote, IsTold, Fetched, CountsFetchOf, AsksName, IsPut, Runs, outside, ending_of, table_name, file_names, status_of_answer};
 
 use crate::answer::report_of;
@@ -17,7 +15,7 @@ use crate::input_fault::{InputFault, InputFile};
 use crate::refusal::{MEMORY_NOTE, Refusal, Refused, WRITE_FAULT_NOTE};
 use crate::request::Request;
 use crate::words::request_of;
-use outside_ports::{Failed, FetchFault, Shelf, Sink};
+use outside_ports::{FetchFault, Shelf, Sink, put_lines};
 use std::alloc::{AllocError, Global};
 
 /// The most bytes of a table file.
@@ -40,42 +38,6 @@ fn fetch_table<H: Shelf>(alloc: Global, name: &String, shelf: &mut H) -> Result<
     }
 }
 
-/// Writes a report, one put for each line.
-fn write_lines<O: Sink>(report: &[u8], out: &mut O) -> Result<(), Failed>
-    ensures written { AppendsPiece result (O.written out.old) report.now (O.written out.new) }
-    ensures faults { CountsPut result (O.faults out.old) (O.faults out.new) }
-    ensures never_falls { O.faults out.old ≤ O.faults out.new }
-{
-    let mut rest = report;
-    while !rest.is_empty() {
-        let (line, others) = rest.split_at(line_len(rest));
-        out.put(line)?;
-        rest = others;
-    }
-    Ok(())
-}
-
-/// The length of the first line, its line feed included.
-fn line_len(text: &[u8]) -> usize
-    requires { 0 < length text.now }
-    ensures length { result ≡ first_line_len text.now }
-    ensures some { 0 < result }
-    ensures within { result ≤ length text.now }
-{
-    match line_feed(text) {
-        Some(place) => place + 1,
-        None => text.len(),
-    }
-}
-
-/// The place of the first line feed.
-fn line_feed(text: &[u8]) -> Option<usize>
-    ensures place { result ≡ position (λ byte. byte == 10) text.now }
-    ensures within { IfSome result (λ place. place < length text.now) }
-{
-    text.iter().position(|byte| *byte == b'\n')
-}
-
 /// Serves a request: fetches its table, and writes the report or says why there is none.
 fn serve_request<H: Shelf, O: Sink>(
     alloc: Global,
@@ -93,7 +55,7 @@ fn serve_request<H: Shelf, O: Sink>(
 {
     let bytes = fetch_table(alloc, request.table(), shelf)?;
     let report = report_of(alloc, request, &bytes)?;
-    write_lines(&report, out).map_err(|_| Refusal::WriteFault)
+    put_lines(&report, out).map_err(|_| Refusal::WriteFault)
 }
 
 /// Serves the words: what they ask for, or why it is refused.
@@ -116,7 +78,7 @@ fn serve<'w, H: Shelf, O: Sink>(
         Ok(request) => request,
         Err(fault) => {
             return Err(Refused {
-                refusal: Refusal::Input(fault),
+                refusal: Refusal::from(fault),
                 table: "",
             });
         }
@@ -184,7 +146,7 @@ pub fn run<H: Shelf, O: Sink, M: Sink>(
 
     // Its main parts, one by one. Status 0: `out` received the report of the answer.
     ensures reported { result ≡ 0 → OfFiles (H.held shelf.old) (λ files. IsOkAnd (answer (map string_bytes words.now.items) files)
-        (λ report. O.written out.new ≡ append_written (O.written out.old) report)) }
+        (λ report. O.written out.new ≡ append_known (O.written out.old) report)) }
 
     // What it received for `envelope` is the report of a cover: each printed enclosure holds the exact probability of its
     // isotopologue, and the printed set reaches the wanted coverage in exact weights wherever its `lo` total does.

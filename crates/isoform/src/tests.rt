@@ -1,4 +1,4 @@
-// Whole runs over shelves and sinks in memory: the worked examples, and what fails.
+//! Whole runs over shelves and sinks in memory: the worked examples, and what fails.
 use crate::run;
 use outside_ports::{MemoryShelf, MemorySink};
 use std::alloc::{AllocError, Global};
@@ -186,7 +186,7 @@ fn answers_of_whole_runs(rt: HostRuntime) -> Result<(), Fail> {
             table: b"",
             status: 3,
             out: b"",
-            note: b"isoform: table\n",
+            note: b"isoform: table: record 1: header\n",
         },
         // Tables that are no text, cut inside quotes, or have bytes of 0.
         Case {
@@ -196,7 +196,7 @@ fn answers_of_whole_runs(rt: HostRuntime) -> Result<(), Fail> {
             table: b"symbol,number,mass,abundance,valence\ne-,0,0.0005,0,0\n\xff,1,10,1,1\n",
             status: 3,
             out: b"",
-            note: b"isoform: table\n",
+            note: b"isoform: table: record 3: symbol\n",
         },
         Case {
             mass: "10",
@@ -205,7 +205,7 @@ fn answers_of_whole_runs(rt: HostRuntime) -> Result<(), Fail> {
             table: b"symbol,number,mass,abundance,valence\ne-,0,0.0005,0,0\nA,1,10,1,\"1\n",
             status: 3,
             out: b"",
-            note: b"isoform: table\n",
+            note: b"isoform: table: record 3: valence\n",
         },
         Case {
             mass: "10",
@@ -214,7 +214,7 @@ fn answers_of_whole_runs(rt: HostRuntime) -> Result<(), Fail> {
             table: b"symbol,number,mass,abundance,valence\ne-,0,0.0005,0,0\nA\0,1,10,1,1\n",
             status: 3,
             out: b"",
-            note: b"isoform: table\n",
+            note: b"isoform: table: record 3: symbol\n",
         },
         // A CR alone ends a record.
         Case {
@@ -233,7 +233,7 @@ fn answers_of_whole_runs(rt: HostRuntime) -> Result<(), Fail> {
             table: AB,
             status: 5,
             out: b"",
-            note: b"isoform: alphabet\n",
+            note: b"isoform: alphabet: unknown symbol at 1\n",
         },
         Case {
             mass: "10",
@@ -242,7 +242,7 @@ fn answers_of_whole_runs(rt: HostRuntime) -> Result<(), Fail> {
             table: AB,
             status: 5,
             out: b"",
-            note: b"isoform: alphabet\n",
+            note: b"isoform: alphabet: repeated at 1\n",
         },
         Case {
             mass: "10",
@@ -251,16 +251,44 @@ fn answers_of_whole_runs(rt: HostRuntime) -> Result<(), Fail> {
             table: AB,
             status: 5,
             out: b"",
-            note: b"isoform: alphabet\n",
+            note: b"isoform: alphabet: bad text at 2\n",
         },
         Case {
             mass: "10",
             da: "0",
-            alphabet: "[10A]",
+            alphabet: "[11A]",
             table: AB,
             status: 5,
             out: b"",
-            note: b"isoform: alphabet\n",
+            note: b"isoform: alphabet: unknown symbol at 0\n",
+        },
+        Case {
+            mass: "10",
+            da: "0",
+            alphabet: "A5-2",
+            table: AB,
+            status: 5,
+            out: b"",
+            note: b"isoform: alphabet: empty range at 0\n",
+        },
+        // A labelled isotope of the same mass stands behind its element, and a range leaves out counts below it.
+        Case {
+            mass: "10",
+            da: "0",
+            alphabet: "A[10A]",
+            table: AB,
+            status: 0,
+            out: b"decompose 1\npeak 1 10.000000000000\nformula [10A] 10.000000000000 10.000000000000 0\nformula A 10.000000000000 10.000000000000 0\n",
+            note: b"",
+        },
+        Case {
+            mass: "20",
+            da: "0.00003",
+            alphabet: "A1-1B0-1",
+            table: AB,
+            status: 0,
+            out: b"decompose 1\npeak 1 20.000000000000\nformula AB 20.000010000000 20.000010000000 10000000\n",
+            note: b"",
         },
     ];
     for case in &cases {
@@ -374,7 +402,13 @@ fn run_on_long_table(
 #[test]
 fn limits_are_refused_before_anything_is_written(rt: HostRuntime) -> Result<(), Fail> {
     let alloc = rt.alloc();
-    run_on_long_table(&rt, alloc, 1 << 24, 3, b"isoform: table\n")?;
+    run_on_long_table(
+        &rt,
+        alloc,
+        1 << 24,
+        3,
+        b"isoform: table: record 1: header\n",
+    )?;
     run_on_long_table(
         &rt,
         alloc,

@@ -1,4 +1,4 @@
-// The request that the program's words make.
+//! The request that the program's words make.
 ghost use Rattle.std.specs.Prelude.{◌≡◌, ◌<◌, ◌≤◌, length, map, string_bytes, IfOk};
 ghost use Rattle.std.specs.Str.{bytes_eq};
 ghost use Rattle.isoform.specs.Answering.{seen_through};

@@ -6,9 +6,9 @@ use Rattle.std.proofs.lemmas.List.{length-map, map-append}
 use Rattle.std.proofs.Math.Nat.{mul_comm, mul_assoc, mul-div_cancel_left, mul-le-mul_left, mul-le-mul_right}
 use Rattle.std.proofs.Math.Seq.{take-suc}
 use Rattle.multinomial_bounds.specs.Isotopologue.{Element}
-use Rattle.isotopologue_list.specs.Compositions.{compositions, choices, counts_of, isotopologues_of, isotopologue_count}
-use Rattle.isotopologue_list.proofs.PlaceLemmas.{length-choices}
-use Rattle.isotopologue_list.proofs.CompositionLemmas.{compositions_one}
+use Rattle.multinomial_bounds.specs.Compositions.{compositions, choices, counts_of, isotopologues_of, isotopologue_count}
+use Rattle.isotopologue_list.proofs.ChoicesByPlace.{length-choices}
+use Rattle.isotopologue_list.proofs.CompositionsByFirst.{compositions_one}
 
 -- the compositions of n over q + 1 places
 pub many : ℕ → ℕ → ℕ

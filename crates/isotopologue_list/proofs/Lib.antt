@@ -1,13 +1,10 @@
 pub mod FlatLemmas
-pub mod CompositionLemmas
-pub mod CountsLemmas
+pub mod CompositionsByFirst
 pub mod RowLemmas
 pub mod ProductLemmas
 pub mod ListingLemmas
-pub mod PlaceLemmas
+pub mod ChoicesByPlace
 pub mod CountLemmas
-pub mod OrderLaws
-pub mod MemberLaws
 pub mod ParentLemmas
 pub mod SearchLemmas
 pub mod NearestLemmas

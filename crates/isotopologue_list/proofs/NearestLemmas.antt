@@ -8,11 +8,11 @@ use Rattle.std.proofs.lemmas.List.{length-map, length-set, get_or-map, same_list
 use Rattle.std.proofs.lemmas.List.FromFn.{length-range_with_len, get_or-range_with_len}
 use Rattle.std.proofs.lemmas.List.Sorted.{length_permutation, All-permutation, Contains-permutation}
 use Rattle.multinomial_bounds.specs.Path.{atoms_above}
-use Rattle.isotopologue_list.specs.Compositions.{compositions, composition_at}
-use Rattle.isotopologue_list.specs.Listed.{ends_of_counts}
-use Rattle.isotopologue_list.specs.Nearest.{moves_to_all}
+use Rattle.multinomial_bounds.specs.Compositions.{compositions}
+use Rattle.isotopologue_list.specs.Nearest.{composition_at, moves_to_all}
+use Rattle.isotopologue_list.specs.ListedParts.{ends_of_counts}
 use Rattle.isotopologue_list.proofs.FlatLemmas.{range_push}
-use Rattle.isotopologue_list.proofs.CountsLemmas.{All-range}
+use Rattle.multinomial_bounds.proofs.CompositionLemmas.{All-range}
 use Rattle.std.proofs.lemmas.List.Elements.{All-map}
 
 -- the moves to the counts at the first places

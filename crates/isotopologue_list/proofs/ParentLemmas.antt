@@ -11,7 +11,7 @@ use Rattle.multinomial_bounds.specs.Path.{first_above, atoms_above, parent_of, b
 use Rattle.multinomial_bounds.proofs.WeightLemmas.{moved_to}
 use Rattle.multinomial_bounds.proofs.ModeLemmas.{length-mode_of_atoms, IsMode-mode_of_atoms}
 use Rattle.multinomial_bounds.proofs.PathLemmas.{IsParentMove, IsParentMove-from, IsParentMove-falls, bound_at-suc, bound_at-mode, first_above-above, atoms_above-zero, same_counts}
-use Rattle.isotopologue_list.specs.Listed.{ends_of_counts}
+use Rattle.isotopologue_list.specs.ListedParts.{ends_of_counts}
 use Rattle.isotopologue_list.proofs.FlatLemmas.{range_push}
 
 first_above-most : (a b : List ℕ) → first_above a b ≤ length b

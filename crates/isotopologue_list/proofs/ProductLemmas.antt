@@ -4,8 +4,10 @@ use Rattle.std.proofs.Math.Seq.{take-suc, drop-cons}
 use Rattle.std.proofs.lemmas.List.{take_all, drop_all, length-map, get_or-map}
 use Rattle.std.specs.Prelude.{flat_map}
 use Rattle.multinomial_bounds.specs.Bounds.{certainty, floor_of, ceiling_of, product_of}
-use Rattle.isotopologue_list.specs.Compositions.{choices}
-use Rattle.isotopologue_list.specs.Listed.{BoundedCounts, BoundedIsotopologue, ends_from, isotopologue_from}
+use Rattle.multinomial_bounds.specs.Compositions.{choices}
+use Rattle.isotopologue_sets.specs.Covers.{Member}
+use Rattle.isotopologue_list.specs.Listed.{BoundedCounts}
+use Rattle.isotopologue_list.specs.ListedParts.{ends_from, isotopologue_from}
 use Rattle.isotopologue_list.proofs.FlatLemmas.{map_flat_map, flat_map_same, flat_map_push, map_map}
 
 -- the ends of all choices that go on with these counts
@@ -75,8 +77,8 @@ unfolding isotopologue_from product_of
 ends_from-isotopologue_from chosen = ends_are certainty certainty chosen
 
 -- what has the same ends as all isotopologues has the ends of each
-pub same_at : {E : Type 0} (lo hi : E → ℕ) (es : List E) (is : List BoundedIsotopologue) (k : ℕ) (e : E)
-    (d : BoundedIsotopologue) → map {B = ℕ × ℕ} (λ e. (lo e, hi e)) es ≡ map {B = ℕ × ℕ} (λ i. (i.lo, i.hi)) is →
+pub same_at : {E : Type 0} (lo hi : E → ℕ) (es : List E) (is : List Member) (k : ℕ) (e : E)
+    (d : Member) → map {B = ℕ × ℕ} (λ e. (lo e, hi e)) es ≡ map {B = ℕ × ℕ} (λ i. (i.lo, i.hi)) is →
     k < length is →
     let p : ℕ × ℕ = (lo (get_or es k e), hi (get_or es k e)) in
     let q : ℕ × ℕ = ((get_or is k d).lo, (get_or is k d).hi) in

@@ -6,7 +6,8 @@ use Rattle.std.proofs.Math.Nat.{mul-le-mul_right}
 use Rattle.std.proofs.Math.Seq.{take-append_seam, drop-append_seam}
 use Rattle.std.proofs.lemmas.List.Elements.{All-head, All-tail}
 use Rattle.multinomial_bounds.specs.Weight.{IsCounts}
-use Rattle.isotopologue_list.specs.Listed.{BoundedCounts, bounded_counts, ends_of_counts, rows}
+use Rattle.isotopologue_list.specs.Listed.{BoundedCounts, bounded_counts}
+use Rattle.isotopologue_list.specs.ListedParts.{ends_of_counts, rows}
 
 -- the rows of all counts
 pub rows-end_to_end : (ws : List ℕ) (n : ℕ) (cs : List (List ℕ)) → All (IsCounts ws n) cs →

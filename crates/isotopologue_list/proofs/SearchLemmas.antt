@@ -5,18 +5,18 @@ use Rattle.std.specs.Ordering.{nat_cmp, is_le, is_some_and, ordering_then, order
 use Rattle.std.specs.declared.cmp.Ordering.{Ordering}
 use Rattle.std.specs.declared.cmp.Ordering.TheVariants.{Less, Equal, Greater}
 use Rattle.std.specs.Cmp.Lexicographic.{slice_cmp, slice_partial_cmp}
-use Rattle.std.proofs.lemmas.Cmp.{same_from_slice_cmp_tested, nat_list_cmp_total}
+use Rattle.std.proofs.lemmas.Cmp.{same_from_slice_cmp_tested, nat_list_cmp_total, tied_itself}
 use Rattle.std.proofs.lemmas.Bool.{cases_lt, both_ways}
 use Rattle.std.proofs.lemmas.List.{drop-drop, get_or_default}
 use Rattle.std.proofs.Math.Nat.{mul-div_cancel_left, mul_comm}
 use Rattle.std.proofs.Math.Seq.{take-append_seam, drop-append_seam}
 use Rattle.std.proofs.lemmas.List.Elements.{All-head, All-tail}
 use Rattle.multinomial_bounds.specs.Weight.{IsCounts}
-use Rattle.isotopologue_list.specs.Compositions.{compositions, composition_at}
-use Rattle.isotopologue_list.proofs.CountsLemmas.{compositions-IsCounts}
+use Rattle.multinomial_bounds.specs.Compositions.{compositions}
+use Rattle.isotopologue_list.specs.Nearest.{composition_at}
+use Rattle.multinomial_bounds.proofs.CompositionLemmas.{compositions-IsCounts, compositions_complete}
 use Rattle.isotopologue_list.proofs.RowLemmas.{length-end_to_end, row_within}
-use Rattle.isotopologue_list.proofs.MemberLaws.{compositions_complete}
-use Rattle.isotopologue_list.proofs.OrderLaws.{compositions_in_order, same_counts}
+use Rattle.multinomial_bounds.proofs.LexicographicOrder.{compositions_in_order}
 
 row_of : (ws : List ℕ) (n : ℕ) (cs : List (List ℕ)) → All (IsCounts ws n) cs → (k : ℕ) → k < length cs →
     take (length ws) (drop (k * length ws) (flat_map (λ c. c) cs)) ≡ get_or cs k []
@@ -108,7 +108,7 @@ places_before q n i j within after =
     (λ (h : j < i). h)
     (λ (g : i ≤ j).
     let e : j ≡ i = omega arith in
-    absurd (both_ways _ (rw e at after) (ap is_le (same_counts (composition_at q n i)))))
+    absurd (both_ways _ (rw e at after) (ap is_le (tied_itself nat_list_cmp_total (composition_at q n i)))))
     (cases_lt j i))
     (cases_lt i j)
 

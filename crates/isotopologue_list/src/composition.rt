@@ -1,7 +1,7 @@
 //! The counts that a number of atoms may have over the isotopes of an element.
 
 ghost use Rattle.std.specs.Prelude.{◌≡◌, ◌+◌, ◌-◌, ◌*◌, ◌^◌, ◌<◌, ◌≤◌, ◌++◌, length, take, drop, flat_map, IfOk};
-ghost use Rattle.isotopologue_list.specs.Compositions.{compositions};
+ghost use Rattle.multinomial_bounds.specs.Compositions.{compositions};
 
 use std::alloc::AllocError;
 
@@ -30,8 +30,8 @@ pub(crate) fn append_compositions(
     Ok(())
 }
 
-/// The counts at a place of those that stand end to end.
-pub(crate) fn row_at(counts: &[u32], isotopes: usize, place: usize) -> &[u32]
+/// The counts at a place, 0 first, of lists of so many counts that stand end to end.
+pub fn row_at(counts: &[u32], isotopes: usize, place: usize) -> &[u32]
     requires { place * isotopes + isotopes ≤ length counts.now }
     ensures { result.now ≡ take isotopes (drop (place * isotopes) counts.now) }
 {

@@ -1,9 +1,10 @@
 //! How many isotopologues there are, without listing them.
 
 ghost use Rattle.std.specs.Prelude.{◌≡◌, ◌≤◌, SomeIff, length};
-ghost use Rattle.isotopologue_list.specs.Compositions.{compositions, isotopologue_count};
+ghost use Rattle.multinomial_bounds.specs.Compositions.{compositions, isotopologue_count};
 
-use crate::element::ElementAtoms;
+use isotopologue_sets::ElementAtoms;
+use multinomial_bounds::MAX_ATOMS;
 
 /// How many isotopologues the elements have together. None exactly where there are more than `most`.
 pub fn count_up_to(elements: &[ElementAtoms], most: u64) -> Option<u64>
@@ -26,7 +27,7 @@ pub fn count_up_to(elements: &[ElementAtoms], most: u64) -> Option<u64>
 fn compositions_up_to(isotopes: usize, atoms: u32, most: u64) -> Option<u64>
     requires some { 1 ≤ isotopes }
     requires few { isotopes ≤ 16 }
-    requires few_atoms { atoms ≤ 10000 }
+    requires few_atoms { atoms ≤ MAX_ATOMS }
     ensures { SomeIff result (length (compositions isotopes atoms) ≤ most) (length (compositions isotopes atoms)) }
 {
     let mut count = at_most(1, most)?;

@@ -1,8 +1,8 @@
 //! All counts of one element with their enclosures.
 
 use crate::composition::{append_compositions, row_at};
-use crate::element::ElementAtoms;
 use crate::enclosures::enclosures_of;
+use isotopologue_sets::ElementAtoms;
 use multinomial_bounds::Enclosure;
 use std::alloc::{AllocError, Global};
 use std::marker::Model;
@@ -18,7 +18,8 @@ pub(crate) struct ElementList {
 
 impl Model for ElementList {
     ghost use Rattle.std.specs.Prelude.{◌≡◌, ◌*◌, List, map, length};
-    ghost use Rattle.isotopologue_list.specs.Listed.{BoundedCounts, rows};
+    ghost use Rattle.isotopologue_list.specs.Listed.{BoundedCounts};
+    ghost use Rattle.isotopologue_list.specs.ListedParts.{rows};
 
     ghost Value = { List BoundedCounts };
 
@@ -30,7 +31,7 @@ impl Model for ElementList {
 impl ElementList {
     ghost use Rattle.std.specs.Prelude.{◌≡◌, ◌<◌, ◌≤◌, IfOk, map, length, slice_index_or};
     ghost use Rattle.multinomial_bounds.specs.Weight.{IsWeights};
-    ghost use Rattle.isotopologue_list.specs.Compositions.{counts_of};
+    ghost use Rattle.multinomial_bounds.specs.Compositions.{counts_of};
     ghost use Rattle.isotopologue_list.specs.Listed.{BoundedCounts, bounded_counts};
 
     /// All counts of an element.

@@ -9,12 +9,12 @@ ghost use Rattle.multinomial_bounds.specs.Weight.{IsWeights, IsCounts};
 ghost use Rattle.multinomial_bounds.specs.Bounds.{floor_of, ceiling_of};
 ghost use Rattle.multinomial_bounds.specs.Mode.{mode_of_atoms};
 ghost use Rattle.multinomial_bounds.specs.Path.{first_above, atoms_above, parent_of, bound_of};
-ghost use Rattle.isotopologue_list.specs.Compositions.{compositions, composition_at};
-ghost use Rattle.isotopologue_list.specs.Listed.{ends_of_counts};
-ghost use Rattle.isotopologue_list.specs.Nearest.{moves_to_all};
+ghost use Rattle.multinomial_bounds.specs.Compositions.{compositions};
+ghost use Rattle.isotopologue_list.specs.Nearest.{composition_at, moves_to_all};
+ghost use Rattle.isotopologue_list.specs.ListedParts.{ends_of_counts};
 
 use crate::composition::row_at;
-use multinomial_bounds::{Enclosure, mode_of, move_down};
+use multinomial_bounds::{Enclosure, MAX_ATOMS, mode_of, move_down};
 use std::alloc::{AllocError, Global};
 
 /// The enclosures of all counts, which stand end to end. Memory is in proportion to the number of counts,
@@ -26,7 +26,7 @@ pub(crate) fn enclosures_of(
     counts: &[u32],
 ) -> Result<Vec<Enclosure>, AllocError>
     requires weights_in_range { IsWeights weights.now }
-    requires few_atoms { atoms ≤ 10000 }
+    requires few_atoms { atoms ≤ MAX_ATOMS }
     requires all { counts.now ≡ flat_map (λ c. c) (compositions (length weights.now) atoms) }
     ensures { IfOk result (λ es. map {B = ℕ × ℕ} (λ e. (e.lo, e.hi)) es.items
         ≡ map (ends_of_counts weights.now) (compositions (length weights.now) atoms)) }
@@ -55,7 +55,7 @@ fn nearest_first(
     counts: &[u32],
 ) -> Result<Vec<(u32, usize)>, AllocError>
     requires some { 1 ≤ length mode.now }
-    requires few_atoms { sum mode.now ≤ 10000 }
+    requires few_atoms { sum mode.now ≤ MAX_ATOMS }
     requires all { counts.now ≡ flat_map (λ c. c) (compositions (length mode.now) (sum mode.now)) }
     ensures all { IfOk result (λ v. IsPermutation (moves_to_all mode.now) v.items) }
     ensures in_order { IfOk result (λ v. IsNonDecreasingBy (λ p. p.0) v.items) }
@@ -79,7 +79,7 @@ fn enclosure_by_parent(
     parent: &mut [u32],
 ) -> Enclosure
     requires weights_in_range { IsWeights weights.now }
-    requires few_atoms { sum mode.now ≤ 10000 }
+    requires few_atoms { sum mode.now ≤ MAX_ATOMS }
     requires mode { mode.now ≡ mode_of_atoms weights.now (sum mode.now) }
     requires all { counts.now ≡ flat_map (λ c. c) (compositions (length weights.now) (sum mode.now)) }
     requires one_each { length enclosures.now ≡ length (compositions (length weights.now) (sum mode.now)) }
@@ -133,7 +133,7 @@ fn first_above(fewer: &[u32], more: &[u32]) -> usize
 // How many atoms of the second counts are above the first.
 fn atoms_above(fewer: &[u32], more: &[u32]) -> u32
     requires same_places { length fewer.now ≡ length more.now }
-    requires few_atoms { sum more.now ≤ 10000 }
+    requires few_atoms { sum more.now ≤ MAX_ATOMS }
     ensures { result ≡ atoms_above fewer.now more.now }
 {
     let mut above = 0;

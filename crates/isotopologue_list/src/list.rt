@@ -1,7 +1,7 @@
 //! All isotopologues of a formula with their enclosures.
 
-use crate::element::ElementAtoms;
 use crate::element_list::ElementList;
+use isotopologue_sets::ElementAtoms;
 use multinomial_bounds::{Enclosure, times};
 use std::alloc::{AllocError, Global};
 use std::cmp::Ordering;
@@ -19,10 +19,11 @@ pub struct IsotopologueList {
 
 impl Model for IsotopologueList {
     ghost use Rattle.std.specs.Prelude.{◌≡◌, ℕ, List, map};
-    ghost use Rattle.isotopologue_list.specs.Compositions.{choices};
-    ghost use Rattle.isotopologue_list.specs.Listed.{BoundedIsotopologue, isotopologue_from};
+    ghost use Rattle.multinomial_bounds.specs.Compositions.{choices};
+    ghost use Rattle.isotopologue_sets.specs.Covers.{Member};
+    ghost use Rattle.isotopologue_list.specs.ListedParts.{isotopologue_from};
 
-    ghost Value = { List BoundedIsotopologue };
+    ghost Value = { List Member };
 
     ghost view = { λ l. map isotopologue_from (choices l.elements.items) };
 
@@ -36,20 +37,20 @@ impl IsotopologueList {
     ghost use Rattle.std.specs.Cmp.Lexicographic.{slice_cmp};
     ghost use Rattle.multinomial_bounds.specs.Bounds.{IsEnclosure};
     ghost use Rattle.multinomial_bounds.specs.Isotopologue.{IsIsotopologue, isotopologue_weight, all_weight};
-    ghost use Rattle.isotopologue_list.specs.Compositions.{isotopologues_of};
-    ghost use Rattle.isotopologue_list.specs.Listed.{BoundedIsotopologue, bounded_isotopologue};
+    ghost use Rattle.multinomial_bounds.specs.Compositions.{isotopologues_of};
+    ghost use Rattle.isotopologue_sets.specs.Covers.{Member, member_of};
 
     /// Lists all isotopologues of the elements. Memory is in proportion to their number, which `count_up_to`
     /// tells beforehand, and time to that and to the number of each element's counts times its logarithm.
     /// The only error is want of memory.
     pub fn of(alloc: Global, elements: &[ElementAtoms]) -> Result<IsotopologueList, AllocError>
-        ensures all { IfOk result (λ l. l ≡ map (bounded_isotopologue elements.now) (isotopologues_of elements.now)) }
+        ensures all { IfOk result (λ l. l ≡ map (member_of elements.now) (isotopologues_of elements.now)) }
 
         // What follows from these numbers.
         ensures isotopologues { IfOk result (λ l. All (λ i. IsIsotopologue elements.now i.counts) l) }
         ensures elements { IfOk result (λ l. All (λ i. length i.counts ≡ length elements.now) l) }
         ensures each { (i : List (List ℕ)) → IsIsotopologue elements.now i →
-            IfOk result (λ l. Contains l (bounded_isotopologue elements.now i)) }
+            IfOk result (λ l. Contains l (member_of elements.now i)) }
         ensures in_order { IfOk result (λ l.
             AllPairs (λ i j. slice_cmp (slice_cmp nat_cmp) i.counts j.counts ≡ Ordering.Less) l) }
         ensures encloses { IfOk result (λ l. All (λ i.
@@ -84,8 +85,8 @@ impl IsotopologueList {
     /// The enclosure of the isotopologue at a place, in units of 10^-18.
     pub fn enclosure(&self, place: usize) -> Enclosure
         requires { place < length self.now }
-        ensures lo { (d : BoundedIsotopologue) → result.lo ≡ (slice_index_or self.now place d).lo }
-        ensures hi { (d : BoundedIsotopologue) → result.hi ≡ (slice_index_or self.now place d).hi }
+        ensures lo { (d : Member) → result.lo ≡ (slice_index_or self.now place d).lo }
+        ensures hi { (d : Member) → result.hi ≡ (slice_index_or self.now place d).hi }
     {
         self.enclosures[place]
     }
@@ -94,7 +95,7 @@ impl IsotopologueList {
     pub fn counts(&self, place: usize, element: usize) -> &[u32]
         requires place_within { place < length self.now }
         requires element_within { All (λ i. element < length i.counts) self.now }
-        ensures { (d : BoundedIsotopologue) →
+        ensures { (d : Member) →
             result.now ≡ slice_index_or (slice_index_or self.now place d).counts element result.now }
     {
         let elements = self.elements.as_slice();
@@ -104,8 +105,8 @@ impl IsotopologueList {
 }
 
 ghost use Rattle.std.specs.Prelude.{◌≡◌, ◌++◌, ◌/◌, ◌%◌, ◌+◌, ◌<◌, ℕ, [], IfOk, map, drop, length, slice_index_or};
-ghost use Rattle.isotopologue_list.specs.Compositions.{choices};
-ghost use Rattle.isotopologue_list.specs.Listed.{ends_from};
+ghost use Rattle.multinomial_bounds.specs.Compositions.{choices};
+ghost use Rattle.isotopologue_list.specs.ListedParts.{ends_from};
 
 // Appends the enclosures of all choices of counts of the elements from a place on, each times the
 // enclosure of the counts before.

@@ -4,7 +4,8 @@ ghost use Rattle.std.specs.Prelude.{◌≡◌, ◌<◌, ◌≤◌, All, IfOk, le
 ghost use Rattle.multinomial_bounds.specs.Weight.{IsWeights};
 
 use super::*;
-use multinomial_bounds::{enclose, mode_of};
+use isotopologue_sets::ElementAtoms;
+use multinomial_bounds::{MAX_ATOMS, enclose, mode_of};
 use std::alloc::{AllocError, Global};
 use std::process::Abort;
 use std::test::Fail;
@@ -12,7 +13,7 @@ use std::test::Fail;
 // A list of one element.
 fn only(alloc: Global, weights: &[u64], atoms: u32) -> Result<Vec<ElementAtoms>, AllocError>
     requires weights_in_range { IsWeights weights.now }
-    requires few_atoms { atoms ≤ 10000 }
+    requires few_atoms { atoms ≤ MAX_ATOMS }
     ensures { IfOk result (λ v. length v.items ≡ 1) }
 {
     let mut elements = Vec::new(alloc);
@@ -31,7 +32,7 @@ fn expect_enclosed(
 ) -> Result<(), AllocError>
     requires weights_in_range { IsWeights weights.now }
     requires same_places { length counts.now ≡ length weights.now }
-    requires few_atoms { sum counts.now ≤ 10000 }
+    requires few_atoms { sum counts.now ≤ MAX_ATOMS }
     requires place_within { place < length list.now }
     requires some_element { All (λ i. 0 < length i.counts) list.now }
 {
@@ -43,9 +44,10 @@ fn expect_enclosed(
     Ok(())
 }
 
-// Two isotopes of equal weight: the outer counts have a quarter each, and the middle ones the half.
 #[test]
-fn two_equal_isotopes(rt: HostRuntime) -> Result<(), Fail> {
+fn two_atoms_of_two_equal_isotopes_have_a_quarter_a_half_and_a_quarter(
+    rt: HostRuntime,
+) -> Result<(), Fail> {
     let elements = only(rt.alloc(), &[500_000_000, 500_000_000], 2)?;
     let list = IsotopologueList::of(rt.alloc(), &elements)?;
     assert_eq!(rt; list.len(), 3);
@@ -63,9 +65,10 @@ fn two_equal_isotopes(rt: HostRuntime) -> Result<(), Fail> {
     Ok(())
 }
 
-// One atom of three equal isotopes: a third by floor and by ceiling, each.
 #[test]
-fn three_equal_isotopes(rt: HostRuntime) -> Result<(), Fail> {
+fn one_atom_of_three_equal_isotopes_has_a_third_by_floor_and_by_ceiling_each(
+    rt: HostRuntime,
+) -> Result<(), Fail> {
     let elements = only(rt.alloc(), &[300_000_000; 3], 1)?;
     let list = IsotopologueList::of(rt.alloc(), &elements)?;
     assert_eq!(rt; list.len(), 3);
@@ -79,9 +82,10 @@ fn three_equal_isotopes(rt: HostRuntime) -> Result<(), Fail> {
     Ok(())
 }
 
-// Carbon dioxide: both isotopes of carbon, each with six counts of oxygen's three isotopes.
 #[test]
-fn carbon_dioxide(rt: HostRuntime) -> Result<(), Fail> {
+fn carbon_dioxide_has_both_isotopes_of_carbon_with_six_counts_of_oxygen_each(
+    rt: HostRuntime,
+) -> Result<(), Fail> {
     let carbon = ElementAtoms::of(rt.alloc(), &[989_300_000, 10_700_000], 1)?;
     let oxygen = ElementAtoms::of(rt.alloc(), &[997_570_000, 380_000, 2_050_000], 2)?;
     let mut elements = Vec::new(rt.alloc());
@@ -106,9 +110,11 @@ fn carbon_dioxide(rt: HostRuntime) -> Result<(), Fail> {
     Ok(())
 }
 
-// 300 atoms of three isotopes, whose mode has hardly any atoms of the heavier ones.
+// The mode has hardly any atoms of the heavier isotopes.
 #[test]
-fn hundreds_of_atoms(rt: HostRuntime) -> Result<(), Fail> {
+fn counts_of_300_atoms_have_the_enclosures_that_all_moves_give(
+    rt: HostRuntime,
+) -> Result<(), Fail> {
     let weights = [997_570_000, 380_000, 2_050_000];
     let elements = only(rt.alloc(), &weights, 300)?;
     let list = IsotopologueList::of(rt.alloc(), &elements)?;
@@ -121,9 +127,11 @@ fn hundreds_of_atoms(rt: HostRuntime) -> Result<(), Fail> {
     Ok(())
 }
 
-// 12 atoms of three isotopes, whose mode has 5, 4 and 3 atoms, with counts on all sides of it.
+// The mode has 5, 4 and 3 atoms.
 #[test]
-fn mode_in_the_middle(rt: HostRuntime) -> Result<(), Fail> {
+fn counts_on_all_sides_of_the_mode_have_the_enclosures_that_all_moves_give(
+    rt: HostRuntime,
+) -> Result<(), Fail> {
     let weights = [400_000_000, 350_000_000, 250_000_000];
     let elements = only(rt.alloc(), &weights, 12)?;
     let list = IsotopologueList::of(rt.alloc(), &elements)?;
@@ -137,9 +145,8 @@ fn mode_in_the_middle(rt: HostRuntime) -> Result<(), Fail> {
     Ok(())
 }
 
-// No elements have one isotopologue, which is certain.
 #[test]
-fn no_elements(rt: HostRuntime) -> Result<(), Fail> {
+fn no_elements_have_one_isotopologue_which_is_certain(rt: HostRuntime) -> Result<(), Fail> {
     let elements = Vec::new(rt.alloc());
     let list = IsotopologueList::of(rt.alloc(), &elements)?;
     assert_eq!(rt; list.len(), 1);
@@ -153,9 +160,8 @@ fn no_elements(rt: HostRuntime) -> Result<(), Fail> {
     Ok(())
 }
 
-// 10,000 atoms of two isotopes, and of sixteen.
 #[test]
-fn counts_of_many_atoms(rt: HostRuntime) -> Result<(), Fail> {
+fn isotopologues_of_10000_atoms_are_counted_up_to_a_limit(rt: HostRuntime) -> Result<(), Fail> {
     let two = only(rt.alloc(), &[3, 1], 10_000)?;
     assert_eq!(rt; count_up_to(&two, 1_048_576), Some(10_001));
     assert_eq!(rt; count_up_to(&two, 10_000), None);

@@ -9,9 +9,9 @@ use Rattle.std.proofs.Math.Dec.{eqb-suc-zero}
 use Rattle.multinomial_bounds.specs.Isotopologue.{IsIsotopologue}
 use Rattle.element_table.specs.declared.element.Isotope.{Isotope}
 use Rattle.element_table.specs.Elements.{TableEntries}
-use Rattle.formula_text.specs.declared.item.Item.{Item}
+use Rattle.written_items.specs.declared.item.Item.{Item}
 use Rattle.formula_text.specs.Formulas.{atoms_of}
-use Rattle.isotopologue_text.specs.Isotopologues.{is_plain, plain_items, isotopes_of, element_in, formula_isotopes, isotope_items, labelled, isotope_text, counts_text, counts_mass, IsIsotopologueOf}
+use Rattle.isotopologue_text.specs.Isotopologues.{is_plain, plain_items, isotopes_of, element_in, formula_isotopes, isotope_items, isotope_item, isotope_text, counts_text, counts_mass, IsIsotopologueOf}
 
 -- the rest of a filtered list, where the element at its front passes
 
@@ -67,13 +67,13 @@ pub isotopes-skip : (table : TableEntries) (items : List (Item × ℕ)) (i : ℕ
 isotopes-skip table items i part h e other = ap (flat_map (λ p. isotopes_of table p.0)) (plain-skip items i part h e (is_plain-labelled part.0.label other))
 
 pub items-skip : (table : TableEntries) (items : List (Item × ℕ)) (i : ℕ) (part : Item × ℕ) → i < length items → part ≡ get_or items i part → (part.0.label ≡ 0 → ⊥) → isotope_items table (drop i items) ≡ isotope_items table (drop (i + 1) items)
-items-skip table items i part h e other = ap (flat_map (λ p. map (labelled p.0) (isotopes_of table p.0))) (plain-skip items i part h e (is_plain-labelled part.0.label other))
+items-skip table items i part h e other = ap (flat_map (λ p. map (isotope_item p.0) (isotopes_of table p.0))) (plain-skip items i part h e (is_plain-labelled part.0.label other))
 
 pub isotopes-front : (table : TableEntries) (items : List (Item × ℕ)) (i : ℕ) (part : Item × ℕ) → i < length items → part ≡ get_or items i part → part.0.label ≡ 0 → formula_isotopes table (drop i items) ≡ isotopes_of table part.0 ++ formula_isotopes table (drop (i + 1) items)
 isotopes-front table items i part h e plain = ap (flat_map (λ p. isotopes_of table p.0)) (plain-front items i part h e plain)
 
-pub items-front : (table : TableEntries) (items : List (Item × ℕ)) (i : ℕ) (part : Item × ℕ) → i < length items → part ≡ get_or items i part → part.0.label ≡ 0 → isotope_items table (drop i items) ≡ map (labelled part.0) (isotopes_of table part.0) ++ isotope_items table (drop (i + 1) items)
-items-front table items i part h e plain = ap (flat_map (λ p. map (labelled p.0) (isotopes_of table p.0))) (plain-front items i part h e plain)
+pub items-front : (table : TableEntries) (items : List (Item × ℕ)) (i : ℕ) (part : Item × ℕ) → i < length items → part ≡ get_or items i part → part.0.label ≡ 0 → isotope_items table (drop i items) ≡ map (isotope_item part.0) (isotopes_of table part.0) ++ isotope_items table (drop (i + 1) items)
+items-front table items i part h e plain = ap (flat_map (λ p. map (isotope_item p.0) (isotopes_of table p.0))) (plain-front items i part h e plain)
 
 -- counts that are split where the first isotopes end
 

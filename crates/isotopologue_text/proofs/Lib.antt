@@ -1,4 +1,5 @@
 pub mod Found
 pub mod CountsLemmas
 pub mod Weights
+pub mod ElementLimits
 pub mod Splits

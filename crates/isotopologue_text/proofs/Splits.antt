@@ -9,7 +9,7 @@ use Rattle.multinomial_bounds.specs.Weight.{IsCounts}
 use Rattle.multinomial_bounds.specs.Isotopologue.{IsIsotopologue}
 use Rattle.element_table.specs.Elements.{TableEntries}
 use Rattle.element_table.specs.declared.element.Isotope.{Isotope}
-use Rattle.formula_text.specs.declared.item.Item.{Item}
+use Rattle.written_items.specs.declared.item.Item.{Item}
 use Rattle.isotopologue_text.specs.Isotopologues.{isotopes_of, element_in, plain_items, BeginsWithCounts, IsIsotopologueOf}
 use Rattle.isotopologue_text.proofs.CountsLemmas.{plain-front}
 

@@ -1,4 +1,4 @@
--- The weights of an element's isotopes that occur are 1 to 16, each from 1 to 10^9.
+-- The weights of an element's isotopes that occur are 1 to 16, each from 1 to 10^12.
 use Rattle.std.proofs.Common.{◌≡◌, ℕ, ◌<◌, ◌≤◌, true, false, cond, List, [], ◌∷◌, length, map, arith, refl}
 use Rattle.std.specs.Prelude.{nat_lt, All}
 use Rattle.std.specs.List.{AllByRecursion}
@@ -43,7 +43,7 @@ positive (i ∷ is) =
 bounded : (is : List Isotope) → AllByRecursion IsIsotope is → AllByRecursion (λ w. w ≤ 1000000000000) (weights (isotopes_that_occur is))
 bounded [] h = tt
 bounded (i ∷ is) h =
-    let within : i.weight ≤ 1000000000 = h.0.weight_to in
+    let within = h.0.weight_to in
     elim (nat_lt 0 i.weight) as (λ b. AllByRecursion (λ w. w ≤ 1000000000000) (weights (cond b (i ∷ isotopes_that_occur is) (isotopes_that_occur is)))) [
       | true ↦ (omega arith, bounded is h.1)
       | false ↦ bounded is h.1

@@ -4,9 +4,9 @@ use Rattle.std.specs.List.{zip, concat, list_any}
 use Rattle.multinomial_bounds.specs.Isotopologue.{Element, IsIsotopologue}
 use Rattle.element_table.specs.declared.element.Isotope.{Isotope}
 use Rattle.element_table.specs.Elements.{TableEntries, ElementEntry, element_of}
-use Rattle.formula_text.specs.declared.item.Item.{Item}
+use Rattle.written_items.specs.declared.item.Item.{Item}
 use Rattle.formula_text.specs.Masses.{mass_of}
-use Rattle.formula_text.specs.PrintedText.{item_text, count_text}
+use Rattle.written_items.specs.Items.{item_text, count_text}
 
 -- of isotopes those of positive weight, in their order
 abbrev pub isotopes_that_occur : List Isotope → List Isotope
@@ -45,12 +45,12 @@ abbrev pub formula_isotopes : TableEntries → List (Item × ℕ) → List Isoto
 formula_isotopes table formula = flat_map (λ p. isotopes_of table p.0) (plain_items formula)
 
 -- an isotope of an item's element, as a labelled item
-abbrev pub labelled : Item → Isotope → Item
-labelled item isotope = record { symbol = item.symbol; label = isotope.number }
+abbrev pub isotope_item : Item → Isotope → Item
+isotope_item item isotope = record { symbol = item.symbol; label = isotope.number }
 
 -- the same isotopes as labelled items
 abbrev pub isotope_items : TableEntries → List (Item × ℕ) → List Item
-isotope_items table formula = flat_map (λ p. map (labelled p.0) (isotopes_of table p.0)) (plain_items formula)
+isotope_items table formula = flat_map (λ p. map (isotope_item p.0) (isotopes_of table p.0)) (plain_items formula)
 
 -- the counts of an isotopologue of the formula, one element after another: a count for each isotope that occurs,
 -- and those of an element sum to its atoms

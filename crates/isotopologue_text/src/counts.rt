@@ -3,7 +3,7 @@ ghost use Rattle.std.specs.Prelude.{◌≡◌, ◌≤◌, ◌↔◌, IsTrue, Mat
 ghost use Rattle.formula_text.specs.Masses.{HasItems};
 ghost use Rattle.isotopologue_text.specs.Isotopologues.{BeginsWithCounts, IsIsotopologueOf};
 
-use crate::isotopes::{isotopes_of, occurring};
+use crate::isotopes::{isotope_count, isotopes_of};
 use element_table::Table;
 use formula_text::Formula;
 
@@ -46,7 +46,7 @@ pub fn is_isotopologue(table: &Table, formula: &Formula, counts: &[u32]) -> bool
     let mut rest = counts;
     for (item, atoms) in items {
         if item.label == 0 {
-            match after_element(rest, occurring(isotopes_of(table, item)), *atoms) {
+            match after_element(rest, isotope_count(isotopes_of(table, item)), *atoms) {
                 Some(others) => rest = others,
                 None => return false,
             }

@@ -9,7 +9,7 @@ use formula_text::Item;
 /// The isotopes of an item's element, those that don't occur included.
 pub fn isotopes_of<'a>(table: &'a Table, item: &Item) -> &'a [Isotope]
     requires { IsTrue (is_some (element_of table.now item.now.symbol)) }
-    ensures occurring { isotopes_that_occur result.now ≡ isotopes_of table.now item.now }
+    ensures that_occur { isotopes_that_occur result.now ≡ isotopes_of table.now item.now }
     ensures few { length result.now ≤ 16 }
     ensures isotopes { All IsIsotope result.now }
     ensures weighted { 0 < total_weight result.now }
@@ -17,8 +17,8 @@ pub fn isotopes_of<'a>(table: &'a Table, item: &Item) -> &'a [Isotope]
     table.element(item.symbol).unwrap().isotopes()
 }
 
-/// How many of the isotopes occur.
-pub fn occurring(isotopes: &[Isotope]) -> usize
+/// How many of the isotopes have a weight.
+pub fn isotope_count(isotopes: &[Isotope]) -> usize
     ensures { result ≡ length (isotopes_that_occur isotopes.now) }
 {
     isotopes.iter().filter(|i| i.weight > 0).count()

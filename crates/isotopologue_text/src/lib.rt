@@ -2,12 +2,12 @@
 //! each.
 //!
 //! An isotopologue is given by its counts: of each element of the formula's items without a label, in
-//! the formula's order, the counts of its isotopes of positive abundance, by rising mass number. Those
+//! Hill order, the counts of its isotopes of positive abundance, by rising mass number. Those
 //! of an element sum to its atoms. [`is_isotopologue`] tells which counts are such.
 //!
-//! Contracts see the elements as those of `isotopologue_list`, and an isotopologue as the list of its counts.
-//! The crate stands on `element_table`, `formula_text` and `isotopologue_list`, on the definitions of
-//! `multinomial_bounds`, and on `itoa`. The layer above lists the isotopologues of [`elements_of`] a formula,
+//! Contracts see the elements as those of `isotopologue_sets`, and an isotopologue as the list of its counts.
+//! The crate stands on `element_table`, `written_items`, `formula_text` and `isotopologue_sets`, and on the definitions
+//! of `multinomial_bounds`. The layer above lists the isotopologues of [`elements_of`] a formula,
 //! and asks for the text and the mass of each by [`isotopologue_text`] and [`isotopologue_mass`].
 #![tactic(auto)]
 

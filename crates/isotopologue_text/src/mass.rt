@@ -5,7 +5,7 @@ ghost use Rattle.formula_text.specs.Formulas.{atoms_of};
 ghost use Rattle.formula_text.specs.Masses.{HasItems, item_isotope, item_mass, mass_of};
 ghost use Rattle.isotopologue_text.specs.Isotopologues.{isotopes_that_occur, formula_isotopes, labelled_items, counts_mass, isotopologue_mass_of, IsIsotopologueOf};
 
-use crate::isotopes::{isotopes_of, occurring};
+use crate::isotopes::{isotope_count, isotopes_of};
 use element_table::{Isotope, Table};
 use formula_text::{Formula, Item};
 
@@ -41,7 +41,7 @@ fn counts_mass(table: &Table, items: &[(Item, u32)], counts: &[u32]) -> u64
     for (item, _) in items {
         if item.label == 0 {
             let isotopes = isotopes_of(table, item);
-            let (own, others) = rest.split_at(occurring(isotopes));
+            let (own, others) = rest.split_at(isotope_count(isotopes));
             mass += element_mass(isotopes, own);
             rest = others;
         }

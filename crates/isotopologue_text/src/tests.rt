@@ -144,7 +144,7 @@ fn elements_have_the_isotopes_that_occur(rt: HostRuntime) -> Result<(), Fail> {
     assert!(rt; has_items(&table, &dioxide));
     let elements = elements_of(alloc, &table, &dioxide)?;
     assert_eq!(rt; elements.len(), 2);
-    let carbon: &[u64] = &[989_300_000, 10_700_000];
+    let carbon: &[u64] = &[989_300_000_000, 10_700_000_000];
     assert_eq!(rt; elements[0].weights(), carbon);
     assert_eq!(rt; elements[0].atoms(), 1);
     let oxygen: &[u64] = &[997_570_000, 380_000, 2_050_000];

@@ -3,13 +3,13 @@ ghost use Rattle.std.specs.Prelude.{◌≡◌, ◌++◌, ◌≤◌, All, OnOk, I
 ghost use Rattle.std.specs.List.{list_any};
 ghost use Rattle.element_table.specs.Elements.{IsIsotope};
 ghost use Rattle.formula_text.specs.Masses.{HasItems};
-ghost use Rattle.isotopologue_text.specs.Isotopologues.{isotopes_that_occur, formula_isotopes, isotope_items, is_plain, labelled, isotope_text, counts_text, isotopologue_text_of, IsIsotopologueOf};
+ghost use Rattle.isotopologue_text.specs.Isotopologues.{isotopes_that_occur, formula_isotopes, isotope_items, is_plain, isotope_item, isotope_text, counts_text, isotopologue_text_of, IsIsotopologueOf};
 
-use crate::isotopes::{isotopes_of, occurring};
+use crate::isotopes::{isotope_count, isotopes_of};
 use element_table::{Isotope, Table};
 use formula_text::{Formula, Item};
-use itoa::Buffer;
 use std::alloc::{AllocError, Global};
+use written_items::{push_count, push_item};
 
 /// Appends an isotope with its count, unless that is 0.
 fn push_isotope(
@@ -18,21 +18,17 @@ fn push_isotope(
     isotope: &Isotope,
     count: u32,
 ) -> Result<(), AllocError>
-    requires { 1 ≤ isotope.now.number }
-    ensures { OnOk result (text.new.items ≡ text.old.items ++ isotope_text (labelled item.now isotope.now) count) }
+    ensures { OnOk result (text.new.items ≡ text.old.items ++ isotope_text (isotope_item item.now isotope.now) count) }
 {
     if count == 0 {
         return Ok(());
     }
-    let mut digits = Buffer::new();
-    text.push(b'[')?;
-    text.extend_from_slice(digits.format(isotope.number).as_bytes())?;
-    text.extend_from_slice(item.symbol.text())?;
-    text.push(b']')?;
-    if count > 1 {
-        text.extend_from_slice(digits.format(count).as_bytes())?;
-    }
-    Ok(())
+    let isotope = Item {
+        symbol: item.symbol,
+        label: isotope.number,
+    };
+    push_item(text, &isotope)?;
+    push_count(text, count)
 }
 
 /// Appends an element's isotopes that occur, with their counts.
@@ -45,7 +41,7 @@ fn push_element(
     requires agree { length counts.now ≡ length (isotopes_that_occur isotopes.now) }
     requires isotopes { All IsIsotope isotopes.now }
     ensures { OnOk result (text.new.items ≡ text.old.items
-        ++ counts_text (map (labelled item.now) (isotopes_that_occur isotopes.now)) counts.now) }
+        ++ counts_text (map (isotope_item item.now) (isotopes_that_occur isotopes.now)) counts.now) }
 {
     let mut rest = counts;
     for isotope in isotopes {
@@ -73,7 +69,7 @@ fn counts_text(
     for (item, _) in items {
         if item.label == 0 {
             let isotopes = isotopes_of(table, item);
-            let (own, others) = rest.split_at(occurring(isotopes));
+            let (own, others) = rest.split_at(isotope_count(isotopes));
             push_element(&mut text, item, isotopes, own)?;
             rest = others;
         }

@@ -51,7 +51,7 @@ IsEnclosure-counts ws n x ok counts =
     subst P counts.atoms_agree (IsEnclosure-bound_of ws x ok counts.places_agree)
 
 -- an enclosure times those of further elements, in order
-product_from : (round : ℕ → ℕ → ℕ) → ℕ → List ℕ → ℕ
+unfoldable pub product_from : (ℕ → ℕ → ℕ) → ℕ → List ℕ → ℕ
 product_from round start bounds = fold (λ product bound. round (product * bound) certainty) start bounds
 
 IsEnclosure-fold : (es : List Element) (xs : List (List ℕ)) (lo hi f w : ℕ) → All (λ e. IsWeights e.weights) es →

@@ -14,7 +14,7 @@ in_list x i has =
     ⊎_elim (λ (h : i < length x). h) (λ (h : length x ≤ i). absurd (omega (arith, get_or_past x i 0 h))) (cases_lt i (length x))
 
 -- the weight of the ways whose last atom was of isotope i
-pub last_drawn : List ℕ → ℕ → List ℕ → ℕ → ℕ
+unfoldable pub last_drawn : List ℕ → ℕ → List ℕ → ℕ → ℕ
 last_drawn ws n x i = cond (eqb (get_or x i 0) 0) 0 (get_or ws i 0 * weight_of ws n (one_less x i))
 
 pub last_drawn-none : (ws : List ℕ) (n : ℕ) (x : List ℕ) (i : ℕ) → get_or x i 0 ≡ 0 → last_drawn ws n x i ≡ 0

@@ -1,5 +1,6 @@
 -- Isotopologues of a list of elements, their exact probabilities, and the bounds of these.
 use Rattle.std.specs.Prelude.{ℕ, ◌*◌, List, [], ◌∷◌}
+use Rattle.std.specs.List.{sum_by}
 use Rattle.multinomial_bounds.specs.Weight.{weight_of, total_of, IsCounts}
 use Rattle.multinomial_bounds.specs.Bounds.{product_of}
 use Rattle.multinomial_bounds.specs.Path.{bound_of}
@@ -8,6 +9,10 @@ use Rattle.multinomial_bounds.specs.Path.{bound_of}
 pub record Element : Type 0 where
   pub weights : List ℕ
   pub atoms : ℕ
+
+-- the atoms of all elements together
+abbrev pub all_atoms : List Element → ℕ
+all_atoms elements = sum_by (λ e. e.atoms) elements
 
 -- one list of counts for each element, in order: none for no elements
 abbrev pub IsIsotopologue : List Element → List (List ℕ) → Type 0

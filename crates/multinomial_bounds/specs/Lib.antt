@@ -3,3 +3,4 @@ pub mod Bounds
 pub mod Mode
 pub mod Path
 pub mod Isotopologue
+pub mod Compositions

@@ -1,13 +1,16 @@
 //! The mode of an element's atoms.
 
-ghost use Rattle.std.specs.Prelude.{◌≡◌, ◌+◌, ◌*◌, ◌^◌, ◌<◌, ◌≤◌, ◌↔◌, ℕ, length, sum, slice_index, IsTrue, IfOk};
-ghost use Rattle.multinomial_bounds.specs.Weight.{IsWeights, IsCounts, weight_of, total_of};
+ghost use Rattle.std.specs.Prelude.{◌≡◌, ◌+◌, ◌*◌, ◌^◌, ◌<◌, ◌≤◌, ◌↔◌, ℕ, List, length, sum, slice_index, IsTrue, IfOk};
+ghost use Rattle.multinomial_bounds.specs.Weight.{IsWeights, IsCounts, one_less, one_more, weight_of, total_of};
 ghost use Rattle.multinomial_bounds.specs.Bounds.{floor_of, ceiling_of, IsEnclosure};
 ghost use Rattle.multinomial_bounds.specs.Mode.{next_isotope, mode_of_atoms, mode_bound, IsMode};
 
 use crate::enclosure::Enclosure;
 use crate::spread::Spread;
 use std::alloc::{AllocError, Global};
+
+/// The greatest number of atoms of one element.
+pub const MAX_ATOMS: u32 = 10_000;
 
 /// The mode of an element's atoms, and the enclosure of its probability in units of 10^-18. The weights
 /// are those of the isotopes with a positive abundance, by rising mass number; where the next atom may
@@ -19,7 +22,7 @@ pub fn mode_of(
     atoms: u32,
 ) -> Result<(Spread, Enclosure), AllocError>
     requires weights_in_range { IsWeights weights.now }
-    requires few_atoms { atoms ≤ 10000 }
+    requires few_atoms { atoms ≤ MAX_ATOMS }
     ensures mode { IfOk result (λ r. r.0 ≡ mode_of_atoms weights.now atoms) }
     ensures lo { IfOk result (λ r. r.1.lo ≡ mode_bound floor_of weights.now atoms) }
     ensures hi { IfOk result (λ r. r.1.hi ≡ mode_bound ceiling_of weights.now atoms) }
@@ -27,8 +30,11 @@ pub fn mode_of(
     // What follows from these numbers.
     ensures counts { IfOk result (λ r. IsCounts weights.now atoms r.0) }
     ensures is_mode { IfOk result (λ r. IsMode weights.now r.0) }
+    ensures likeliest { IfOk result (λ r. (other : List ℕ) → IsCounts weights.now atoms other →
+        weight_of weights.now atoms other ≤ weight_of weights.now atoms r.0) }
     ensures encloses { IfOk result (λ r.
         IsEnclosure r.1.lo r.1.hi (weight_of weights.now atoms r.0) (total_of weights.now atoms)) }
+    ensures width { IfOk result (λ r. r.1.hi ≤ r.1.lo + atoms) }
 {
     let total = total_weight(weights);
     let mut counts = vec![in alloc; 0u32; weights.len()]?;
@@ -57,7 +63,7 @@ fn add_atom(
     requires weights_in_range { IsWeights weights.now }
     requires whole { total ≡ sum weights.now }
     requires same_places { length counts.old ≡ length weights.now }
-    requires few_atoms { drawn < 10000 }
+    requires few_atoms { drawn < MAX_ATOMS }
     requires mode { counts.old ≡ mode_of_atoms weights.now drawn }
     requires lo { enclosure.lo ≡ mode_bound floor_of weights.now drawn }
     requires hi { enclosure.hi ≡ mode_bound ceiling_of weights.now drawn }
@@ -80,10 +86,20 @@ fn total_weight(weights: &[u64]) -> u64
     weights.iter().sum()
 }
 
-/// Whether no move of one atom makes the counts likelier.
+/// Whether no move of one atom makes the counts likelier. Where none does, no counts of as many atoms are
+/// likelier, and none are likelier than after a move of one atom towards these.
 pub fn is_mode(weights: &[u64], counts: &[u32]) -> bool
     requires { length counts.now ≡ length weights.now }
-    ensures { IsTrue result ↔ IsMode weights.now counts.now }
+    ensures is_mode { IsTrue result ↔ IsMode weights.now counts.now }
+
+    // What follows where the counts are a mode.
+    ensures likeliest { IsTrue result → IsWeights weights.now →
+        (other : List ℕ) → IsCounts weights.now (sum counts.now) other →
+        weight_of weights.now (sum counts.now) other ≤ weight_of weights.now (sum counts.now) counts.now }
+    ensures towards { IsTrue result → IsWeights weights.now →
+        (atoms : ℕ) (other : List ℕ) (i j : ℕ) → IsCounts weights.now atoms other →
+        slice_index counts.now i < slice_index other i → slice_index other j < slice_index counts.now j →
+        weight_of weights.now atoms other ≤ weight_of weights.now atoms (one_more (one_less other i) j) }
 {
     for i in 0..weights.len() {
         if !no_likelier_from(weights, counts, i) {

@@ -1,13 +1,13 @@
 //! Enclosures of any counts, by moves of one atom that begin at the mode.
 
-ghost use Rattle.std.specs.Prelude.{◌≡◌, ◌<◌, ◌≤◌, ℕ, length, sum, slice_index, IfOk, MatchOption};
+ghost use Rattle.std.specs.Prelude.{◌≡◌, ◌+◌, ◌*◌, ◌<◌, ◌≤◌, ℕ, length, sum, slice_index, IfOk, MatchOption};
 ghost use Rattle.multinomial_bounds.specs.Weight.{IsWeights, weight_of, total_of};
 ghost use Rattle.multinomial_bounds.specs.Bounds.{floor_of, ceiling_of, IsEnclosure};
 ghost use Rattle.multinomial_bounds.specs.Mode.{mode_of_atoms, mode_bound, IsMode};
 ghost use Rattle.multinomial_bounds.specs.Path.{atoms_above, bound_at, bound_of};
 
 use crate::enclosure::Enclosure;
-use crate::mode::mode_of;
+use crate::mode::{MAX_ATOMS, mode_of};
 use crate::moves::move_down;
 use crate::spread::Spread;
 use std::alloc::{AllocError, Global};
@@ -23,13 +23,14 @@ pub fn enclose(
 ) -> Result<Enclosure, AllocError>
     requires weights_in_range { IsWeights weights.now }
     requires same_places { length counts.now ≡ length weights.now }
-    requires few_atoms { sum counts.now ≤ 10000 }
+    requires few_atoms { sum counts.now ≤ MAX_ATOMS }
     requires mode_of_these { mode.now ≡ mode_of_atoms weights.now (sum counts.now) }
     ensures lo { IfOk result (λ e. e.lo ≡ bound_of floor_of weights.now counts.now) }
     ensures hi { IfOk result (λ e. e.hi ≡ bound_of ceiling_of weights.now counts.now) }
     ensures encloses { IfOk result (λ e.
         IsEnclosure e.lo e.hi
         (weight_of weights.now (sum counts.now) counts.now) (total_of weights.now (sum counts.now))) }
+    ensures width { IfOk result (λ e. e.hi ≤ e.lo + 2 * sum counts.now) }
 {
     let start = enclosure_of_mode(alloc, weights, mode, counts)?;
     let mut current = mode.counts().to_vec(alloc)?;
@@ -43,7 +44,7 @@ fn along_path(start: Enclosure, weights: &[u64], current: &mut [u32], counts: &[
     requires weights_in_range { IsWeights weights.now }
     requires same_places { length counts.now ≡ length weights.now }
     requires mode_places { length current.old ≡ length weights.now }
-    requires few_atoms { sum counts.now ≤ 10000 }
+    requires few_atoms { sum counts.now ≤ MAX_ATOMS }
     requires same_atoms { sum current.old ≡ sum counts.now }
     requires is_mode { IsMode weights.now current.old }
     ensures lo { result.lo ≡
@@ -68,7 +69,7 @@ fn enclosure_of_mode(
     counts: &[u32],
 ) -> Result<Enclosure, AllocError>
     requires weights_in_range { IsWeights weights.now }
-    requires few_atoms { sum counts.now ≤ 10000 }
+    requires few_atoms { sum counts.now ≤ MAX_ATOMS }
     requires mode_of_these { mode.now ≡ mode_of_atoms weights.now (sum counts.now) }
     ensures lo { IfOk result (λ e. e.lo ≡ mode_bound floor_of weights.now (sum counts.now)) }
     ensures hi { IfOk result (λ e. e.hi ≡ mode_bound ceiling_of weights.now (sum counts.now)) }

@@ -1,6 +1,6 @@
 //! Products of enclosures.
 
-ghost use Rattle.std.specs.Prelude.{◌≡◌, ◌*◌, ℕ};
+ghost use Rattle.std.specs.Prelude.{◌≡◌, ◌+◌, ◌-◌, ◌*◌, ◌≤◌, ℕ};
 ghost use Rattle.multinomial_bounds.specs.Bounds.{certainty, floor_of, ceiling_of, IsEnclosure};
 
 use crate::enclosure::{CERTAINTY, Enclosure};
@@ -14,6 +14,7 @@ pub fn times(x: Enclosure, y: Enclosure) -> Enclosure
         IsEnclosure x.lo x.hi part whole →
         IsEnclosure y.lo y.hi part' whole' →
         IsEnclosure result.lo result.hi (part * part') (whole * whole') }
+    ensures width { result.hi - result.lo ≤ x.hi - x.lo + (y.hi - y.lo) + 1 }
 {
     let unit = u128::from(CERTAINTY);
     let lo = u128::from(x.lo) * u128::from(y.lo) / unit;

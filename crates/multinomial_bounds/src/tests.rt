@@ -1,6 +1,6 @@
 //! Values that come from outside: worked examples, and exact weights of small elements.
 
-ghost use Rattle.std.specs.Prelude.{◌≡◌, ◌*◌, ◌^◌, ◌<◌, ◌≤◌, length, sum};
+ghost use Rattle.std.specs.Prelude.{◌≡◌, ◌+◌, ◌*◌, ◌^◌, ◌<◌, ◌≤◌, length, sum};
 ghost use Rattle.multinomial_bounds.specs.Weight.{IsWeights, total_of};
 
 use super::*;
@@ -15,7 +15,7 @@ const CARBON: [u64; 2] = [989_300_000, 10_700_000];
 const OXYGEN: [u64; 3] = [997_570_000, 380_000, 2_050_000];
 
 #[test]
-fn carbon_dioxide(rt: HostRuntime) -> Result<(), Fail> {
+fn carbon_dioxide_has_the_enclosures_of_its_example(rt: HostRuntime) -> Result<(), Fail> {
     let (carbon, one) = mode_of(rt.alloc(), &CARBON, 1)?;
     assert_eq!(rt; carbon.counts(), [1, 0].as_slice());
     let (oxygen, two) = mode_of(rt.alloc(), &OXYGEN, 2)?;
@@ -33,9 +33,8 @@ fn carbon_dioxide(rt: HostRuntime) -> Result<(), Fail> {
     Ok(())
 }
 
-// Two isotopes of equal weight: the first is taken first, and the outer counts tie.
 #[test]
-fn equal_isotopes(rt: HostRuntime) -> Result<(), Fail> {
+fn equal_isotopes_tie_to_the_lightest(rt: HostRuntime) -> Result<(), Fail> {
     let weights = [500_000_000, 500_000_000];
     let (one, _) = mode_of(rt.alloc(), &weights, 1)?;
     assert_eq!(rt; one.counts(), [1, 0].as_slice());
@@ -62,9 +61,8 @@ fn equal_isotopes(rt: HostRuntime) -> Result<(), Fail> {
     Ok(())
 }
 
-// One atom of three equal isotopes: the ends of the enclosure differ by one unit.
 #[test]
-fn three_equal_isotopes(rt: HostRuntime) -> Result<(), Fail> {
+fn ends_of_a_third_differ_by_one_unit(rt: HostRuntime) -> Result<(), Fail> {
     let (mode, first) = mode_of(rt.alloc(), &[300_000_000; 3], 1)?;
     assert_eq!(rt; mode.counts(), [1, 0, 0].as_slice());
     assert_eq!(rt;
@@ -74,9 +72,8 @@ fn three_equal_isotopes(rt: HostRuntime) -> Result<(), Fail> {
     Ok(())
 }
 
-// A mode that was found with other weights, where these have the same one.
 #[test]
-fn mode_of_other_weights(rt: HostRuntime) -> Result<(), Fail> {
+fn a_mode_found_with_other_weights_is_enclosed_with_these(rt: HostRuntime) -> Result<(), Fail> {
     let (mode, _) = mode_of(rt.alloc(), &[2, 1], 1)?;
     let first = enclose(rt.alloc(), &[1, 1], &mode, &[1, 0])?;
     assert_eq!(rt;
@@ -86,8 +83,60 @@ fn mode_of_other_weights(rt: HostRuntime) -> Result<(), Fail> {
     Ok(())
 }
 
+// The numbers are those of the definitions, in Python's fractions and whole numbers.
 #[test]
-fn exact_weights_are_enclosed(rt: HostRuntime) -> Result<(), Fail> {
+fn counts_of_10000_atoms_are_enclosed(rt: HostRuntime) -> Result<(), Fail> {
+    let (mode, likeliest) = mode_of(rt.alloc(), &CARBON, MAX_ATOMS)?;
+    assert_eq!(rt; mode.counts(), [9_893, 107].as_slice());
+    assert_eq!(rt; likeliest.hi - likeliest.lo, 6_619);
+    hold_carbon(
+        &rt,
+        rt.alloc(),
+        9_893,
+        107,
+        (38_745_020_829_084_513, 38_745_020_829_091_132),
+    )?;
+    hold_carbon(&rt, rt.alloc(), 9_800, 200, (210, 213))?;
+    hold_carbon(&rt, rt.alloc(), 0, 10_000, (0, 1))?;
+    hold_carbon(&rt, rt.alloc(), 10_000, 0, (0, 1))?;
+    Ok(())
+}
+
+// Holds the ends of the enclosure of carbon's counts against these.
+fn hold_carbon(
+    rt: &impl Abort,
+    alloc: Global,
+    light: u32,
+    heavy: u32,
+    ends: (u64, u64),
+) -> Result<(), Fail>
+    requires { light + heavy ≤ MAX_ATOMS }
+{
+    let (mode, _) = mode_of(alloc, &CARBON, light + heavy)?;
+    let enclosure = enclose(alloc, &CARBON, &mode, &[light, heavy])?;
+    assert_eq!(rt; (enclosure.lo, enclosure.hi), ends);
+    Ok(())
+}
+
+#[test]
+fn sixteen_heaviest_weights_share_10000_atoms(rt: HostRuntime) -> Result<(), Fail> {
+    let (mode, enclosure) = mode_of(rt.alloc(), &[1_000_000_000_000; 16], MAX_ATOMS)?;
+    assert_eq!(rt; mode.counts(), [625; 16].as_slice());
+    assert_eq!(rt; (enclosure.lo, enclosure.hi), (0, 38));
+    Ok(())
+}
+
+#[test]
+fn no_atoms_are_certain(rt: HostRuntime) -> Result<(), Fail> {
+    let (mode, enclosure) = mode_of(rt.alloc(), &CARBON, 0)?;
+    assert_eq!(rt; mode.counts(), [0, 0].as_slice());
+    assert_eq!(rt; enclosure, Enclosure::certain());
+    assert_eq!(rt; enclose(rt.alloc(), &CARBON, &mode, &[0, 0])?, enclosure);
+    Ok(())
+}
+
+#[test]
+fn exact_weights_are_enclosed_and_sum_to_their_total(rt: HostRuntime) -> Result<(), Fail> {
     hold_against_exact(&rt, rt.alloc(), &[5, 3, 2], 4, 10_000)?;
     hold_against_exact(&rt, rt.alloc(), &[1, 1, 1], 5, 243)?;
     hold_against_exact(&rt, rt.alloc(), &[1, 97, 2], 3, 1_000_000)?;

@@ -1,3 +1,4 @@
-pub mod Passing
-pub mod Reading
-pub mod Storing
+pub mod PassedPieces
+pub mod PutParts
+pub mod ReadBytes
+pub mod StoredFiles

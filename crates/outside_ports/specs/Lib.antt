@@ -1,7 +1,9 @@
 pub mod Files
 pub mod Faults
-pub mod Fetching
-pub mod Putting
+pub mod Fetches
+pub mod ReadBytes
+pub mod Puts
+pub mod Lines
 pub mod MemoryFiles
 pub mod MemoryBytes
 pub mod FilePort

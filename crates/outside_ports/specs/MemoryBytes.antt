@@ -19,28 +19,28 @@ pub record BytesInMemory : Type 0 where
 
 -- how many bytes the put of that number may take, if it is to fail; of two numbers named for one
 -- put the later one counts
-abbrev pub last_named : ℕ → List FailingPut → Option ℕ
-last_named call failing = option_map (λ put. put.taken) (find (λ put. put.call == call) (reverse failing))
+abbrev pub allowance_of : ℕ → List FailingPut → Option ℕ
+allowance_of call failing = option_map (λ put. put.taken) (find (λ put. put.call == call) (reverse failing))
 
 -- what the next put of a piece that isn't empty was named to take
-abbrev pub named_next : BytesInMemory → Option ℕ
-named_next sink = last_named (count_after sink.puts) sink.failing
+abbrev pub next_allowance : BytesInMemory → Option ℕ
+next_allowance sink = allowance_of (count_after sink.puts) sink.failing
 
 -- whether the put of a piece that isn't empty fails: it was named to, or the piece is longer than
 -- the room left
-abbrev pub put_fails : BytesInMemory → List ℕ → Bool
-put_fails sink piece = is_some (named_next sink) || nat_lt sink.room (length piece)
+abbrev pub is_failing_put : BytesInMemory → List ℕ → Bool
+is_failing_put sink piece = is_some (next_allowance sink) || nat_lt sink.room (length piece)
 
 -- how many bytes of the piece are taken: as many as the room left and the number named allow
-abbrev pub taken_of : BytesInMemory → List ℕ → ℕ
-taken_of sink piece = min (min (length piece) sink.room) (unwrap_or (named_next sink) (length piece))
+abbrev pub taken_count : BytesInMemory → List ℕ → ℕ
+taken_count sink piece = min (min (length piece) sink.room) (unwrap_or (next_allowance sink) (length piece))
 
 -- the sink after the put of a piece that isn't empty
-abbrev pub after_put : BytesInMemory → List ℕ → BytesInMemory
-after_put sink piece = record {
-  written = sink.written ++ take (taken_of sink piece) piece;
-  room = sink.room - taken_of sink piece;
-  faults = if put_fails sink piece then count_after sink.faults else sink.faults;
+abbrev pub sink_after_put : BytesInMemory → List ℕ → BytesInMemory
+sink_after_put sink piece = record {
+  written = sink.written ++ take (taken_count sink piece) piece;
+  room = sink.room - taken_count sink piece;
+  faults = if is_failing_put sink piece then count_after sink.faults else sink.faults;
   puts = count_after sink.puts;
   failing = sink.failing;
 }

@@ -1,5 +1,5 @@
 -- A shelf of files in memory, of which fetches can be named to fail.
-pub mod Listed
+pub mod Entry
 use Rattle.std.specs.Prelude.{◌≡◌, ◌≢◌, ℕ, ◌+◌, Bool, true, false, ◌||◌, ◌==◌, List, [], ◌∷◌, length, Option, Some, None, is_none, Result, Ok, Err, ⊤, if◌then◌else◌}
 use Rattle.std.specs.List.{list_any}
 use Rattle.std.specs.Str.{bytes_eq}
@@ -19,9 +19,9 @@ pub record FilesInMemory : Type 0 where
   pub failing : List ℕ
 
 -- the bytes of the first file of that name
-abbrev pub file_named : List (List ℕ × List ℕ) → Files
-file_named [] name = None
-file_named (file ∷ files) name = if bytes_eq file.0 name then Some file.1 else file_named files name
+abbrev pub file_bytes : List (List ℕ × List ℕ) → Files
+file_bytes [] name = None
+file_bytes (file ∷ files) name = if bytes_eq file.0 name then Some file.1 else file_bytes files name
 
 -- the new files have these bytes under that name, and at every other name what the old ones have
 pub record Stores (old : Files) (name bytes : List ℕ) (new : Files) : Type 0 where
@@ -29,8 +29,9 @@ pub record Stores (old : Files) (name bytes : List ℕ) (new : Files) : Type 0 w
   pub others : (other : List ℕ) → other ≢ name → new other ≡ old other
 
 -- whether the next fetch, of that name, is to fail: it was named to, or there is no such file
-abbrev pub fetch_fails : FilesInMemory → List ℕ → Bool
-fetch_fails shelf name = list_any (λ call. call == length shelf.asked + 1) shelf.failing || is_none (file_named shelf.files name)
+abbrev pub is_failing_fetch : FilesInMemory → List ℕ → Bool
+is_failing_fetch shelf name =
+    list_any (λ call. call == length shelf.asked + 1) shelf.failing || is_none (file_bytes shelf.files name)
 
 -- the answer is Failed exactly where the fetch is to fail, unless memory ran out
 abbrev pub FailsExactly : {A : Type 0} → Result A FetchFault → Bool → Type 0

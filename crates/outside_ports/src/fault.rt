@@ -1,4 +1,4 @@
-// Why a file isn't fetched or a piece isn't put, and the count of such faults.
+//! Why a file isn't fetched or a piece isn't put, and the count of such faults.
 ghost use Rattle.std.specs.Prelude.{◌≡◌, ◌≤◌};
 ghost use Rattle.outside_ports.specs.Faults.{Rose, count_after};
 ghost use Rattle.outside_ports.specs.declared.fault.FetchFault.TheVariants.{Memory};
@@ -23,7 +23,7 @@ pub enum FetchFault {
 pub struct Failed;
 
 /// A count after one more fault. It stands still at 2^64 - 1, the last value of its type.
-pub(crate) fn raised(count: u64) -> u64
+pub(crate) fn count_after(count: u64) -> u64
     ensures value { result ≡ count_after count }
     ensures rose { Rose count result }
     ensures not_below { count ≤ result }

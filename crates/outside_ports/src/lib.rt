@@ -7,11 +7,13 @@
 //! the runtime, can't tell what a file holds or what was written.
 //!
 //! The crate stands on no other. The program fetches its files and writes its bytes by the two traits, so
-//! that its contract holds for every shelf and sink, and a search counts its steps in a [`Steps`].
+//! that its contract holds for every shelf and sink, and puts its reports by [`put_lines`], line by line.
+//! A search counts its steps in a [`Steps`].
 #![tactic(auto)]
 
 mod fault;
 mod file_shelf;
+mod lines;
 mod memory_shelf;
 mod memory_sink;
 mod shelf;
@@ -23,9 +25,10 @@ mod tests;
 
 pub use fault::{Failed, FetchFault};
 pub use file_shelf::FileShelf;
+pub use lines::put_lines;
 pub use memory_shelf::MemoryShelf;
 pub use memory_sink::MemorySink;
-pub use shelf::Shelf;
+pub use shelf::{MAX_LIMIT, Shelf};
 pub use sink::Sink;
 pub use steps::Steps;
 pub use stream_sink::StreamSink;

@@ -1,13 +1,14 @@
-// A shelf of files in memory.
+//! A shelf of files in memory.
 ghost use Rattle.std.specs.Prelude.{◌≡◌, ◌+◌, ◌≤◌, ◌++◌, ◌∷◌, [], length, map, None, Some, MatchOption, OnOk, OnErr, IsErrOf, string_bytes};
 ghost use Rattle.std.specs.List.{position};
 ghost use Rattle.std.specs.Str.{bytes_eq};
-ghost use Rattle.outside_ports.specs.Fetching.{Asks, CountsFetch, GivesFile};
-ghost use Rattle.outside_ports.specs.MemoryFiles.{FailsExactly, Stores, fetch_fails, file_named};
-ghost use Rattle.outside_ports.specs.MemoryFiles.Listed.{listed};
+ghost use Rattle.outside_ports.specs.Faults.{count_after};
+ghost use Rattle.outside_ports.specs.Fetches.{Asks, CountsFetch, GivesFile};
+ghost use Rattle.outside_ports.specs.MemoryFiles.{FailsExactly, Stores, file_bytes, is_failing_fetch};
+ghost use Rattle.outside_ports.specs.MemoryFiles.Entry.{entry_of};
 
-use crate::fault::{FetchFault, raised};
-use crate::shelf::Shelf;
+use crate::fault::{FetchFault, count_after};
+use crate::shelf::{MAX_LIMIT, Shelf};
 use std::alloc::{AllocError, Global};
 use std::marker::Model;
 
@@ -34,10 +35,10 @@ impl Model for MemoryShelf {
 
     ghost Value = { FilesInMemory };
 
-    ghost use Rattle.outside_ports.specs.MemoryFiles.Listed.{listed};
+    ghost use Rattle.outside_ports.specs.MemoryFiles.Entry.{entry_of};
 
     ghost view = { λ s. record {
-      files = map listed s.files.items;
+      files = map entry_of s.files.items;
       asked = map string_bytes s.asked.items;
       faults = s.faults;
       failing = s.failing.items;
@@ -60,9 +61,9 @@ impl MemoryShelf {
     /// Adds a file, in the place of an older one of that name.
     pub fn add(&mut self, name: String, bytes: Vec<u8>) -> Result<(), AllocError>
         ensures stored { OnOk result
-            (Stores (file_named self.old.files) (string_bytes name) bytes.items (file_named self.new.files)) }
+            (Stores (file_bytes self.old.files) (string_bytes name) bytes.items (file_bytes self.new.files)) }
         ensures others { self.new ≡ record self.old { files = self.new.files } }
-        ensures err { OnErr result (self.new ≡ self.old) }
+        ensures refused { OnErr result (self.new ≡ self.old) }
     {
         store(&mut self.files, name, bytes)
     }
@@ -71,7 +72,7 @@ impl MemoryShelf {
     pub fn fail_at(&mut self, call: u64) -> Result<(), AllocError>
         ensures ok { OnOk result
             (self.new ≡ record self.old { failing = self.old.failing ++ call ∷ [] }) }
-        ensures err { OnErr result (self.new ≡ self.old) }
+        ensures refused { OnErr result (self.new ≡ self.old) }
     {
         self.failing.push(call)?;
         Ok(())
@@ -89,10 +90,10 @@ fn place_of(files: &[StoredFile], name: &String) -> Option<usize>
 /// Puts the bytes in the place of an older file of that name, or behind all files.
 fn store(files: &mut Vec<StoredFile>, name: String, bytes: Vec<u8>) -> Result<(), AllocError>
     ensures stored { OnOk result (Stores
-        (file_named (map listed files.old.items))
+        (file_bytes (map entry_of files.old.items))
         (string_bytes name) bytes.items
-        (file_named (map listed files.new.items))) }
-    ensures err { OnErr result (files.new.items ≡ files.old.items) }
+        (file_bytes (map entry_of files.new.items))) }
+    ensures refused { OnErr result (files.new.items ≡ files.old.items) }
 {
     match place_of(files, &name) {
         Some(place) => files[place].bytes = bytes,
@@ -102,10 +103,10 @@ fn store(files: &mut Vec<StoredFile>, name: String, bytes: Vec<u8>) -> Result<()
 }
 
 /// The bytes of the file of that name.
-fn find<'a>(files: &'a [StoredFile], name: &String) -> Option<&'a [u8]>
+fn file_bytes<'a>(files: &'a [StoredFile], name: &String) -> Option<&'a [u8]>
     ensures { MatchOption result
-        (file_named (map listed files.now) (string_bytes name.now) ≡ None)
-        (λ bytes. file_named (map listed files.now) (string_bytes name.now) ≡ Some bytes.now) }
+        (file_bytes (map entry_of files.now) (string_bytes name.now) ≡ None)
+        (λ bytes. file_bytes (map entry_of files.now) (string_bytes name.now) ≡ Some bytes.now) }
 {
     let place = place_of(files, name)?;
     let file = &files[place];
@@ -115,7 +116,7 @@ fn find<'a>(files: &'a [StoredFile], name: &String) -> Option<&'a [u8]>
 /// Copies the file up to its end, or to its first byte past the limit.
 fn copy_up_to(file: &[u8], limit: u64, into: &mut Vec<u8>) -> Result<(), FetchFault>
     requires empty { into.old.items ≡ [] }
-    requires limit { limit ≤ 268435456 }
+    requires limit { limit ≤ MAX_LIMIT }
     ensures told { GivesFile (Some file.now) limit result into.new.items }
     ensures within { OnOk result (length into.new.items ≤ limit) }
     ensures not_failed { IsErrOf result FetchFault.Failed → ⊥ }
@@ -129,7 +130,7 @@ fn copy_up_to(file: &[u8], limit: u64, into: &mut Vec<u8>) -> Result<(), FetchFa
 }
 
 impl Shelf for MemoryShelf {
-    ghost held = { λ s. Some (file_named s.files) };
+    ghost held = { λ s. Some (file_bytes s.files) };
 
     ghost asked = { λ s. s.asked };
 
@@ -137,27 +138,28 @@ impl Shelf for MemoryShelf {
 
     fn fetch(&mut self, name: &String, limit: u64, into: &mut Vec<u8>) -> Result<(), FetchFault>
         requires empty { into.old.items ≡ [] }
-        requires limit { limit ≤ 268435456 }
+        requires limit { limit ≤ MAX_LIMIT }
         ensures held { self.new.files ≡ self.old.files }
         ensures failing { self.new.failing ≡ self.old.failing }
         ensures asked { Asks result
             self.old.asked (string_bytes name.now) self.new.asked into.new.items }
         ensures faults { CountsFetch result self.old.faults self.new.faults }
+        ensures one_more { IsErrOf result FetchFault.Failed → self.new.faults ≡ count_after self.old.faults }
         ensures never_falls { self.old.faults ≤ self.new.faults }
         ensures told { GivesFile
-            (file_named self.old.files (string_bytes name.now)) limit result into.new.items }
+            (file_bytes self.old.files (string_bytes name.now)) limit result into.new.items }
         ensures within { OnOk result (length into.new.items ≤ limit) }
         ensures too_long { IsErrOf result FetchFault.TooLong → length into.new.items ≡ limit + 1 }
-        ensures fails { FailsExactly result (fetch_fails self.old (string_bytes name.now)) }
+        ensures fails { FailsExactly result (is_failing_fetch self.old (string_bytes name.now)) }
     {
         self.asked.push(name.clone()?)?;
         let call = self.asked.len() as u64;
         if !self.failing.contains(&call) {
-            if let Some(file) = find(&self.files, name) {
+            if let Some(file) = file_bytes(&self.files, name) {
                 return copy_up_to(file, limit, into);
             }
         }
-        self.faults = raised(self.faults);
+        self.faults = count_after(self.faults);
         Err(FetchFault::Failed)
     }
 }

@@ -1,9 +1,9 @@
-// A sink of bytes in memory.
+//! A sink of bytes in memory.
 ghost use Rattle.std.specs.Prelude.{◌≡◌, ◌≢◌, ◌≤◌, ◌<◌, ◌++◌, ◌∷◌, [], length, Some, IfOk, OnOk, OnErr, IsOk, is_err};
-ghost use Rattle.outside_ports.specs.Putting.{AppendsPiece, CountsPut};
-ghost use Rattle.outside_ports.specs.MemoryBytes.{after_put, put_fails, last_named};
+ghost use Rattle.outside_ports.specs.Puts.{AppendsPiece, CountsPut};
+ghost use Rattle.outside_ports.specs.MemoryBytes.{allowance_of, is_failing_put, sink_after_put};
 
-use crate::fault::{Failed, raised};
+use crate::fault::{Failed, count_after};
 use crate::sink::Sink;
 use std::alloc::{AllocError, Global};
 use std::marker::Model;
@@ -77,7 +77,7 @@ impl MemorySink {
         ensures ok { OnOk result (self.new ≡ record self.old {
           failing = self.old.failing ++ record { call = call; taken = taken } ∷ [];
         }) }
-        ensures err { OnErr result (self.new ≡ self.old) }
+        ensures refused { OnErr result (self.new ≡ self.old) }
     {
         self.failing.push(FailingPut { call, taken })?;
         Ok(())
@@ -85,8 +85,8 @@ impl MemorySink {
 }
 
 /// How many bytes the put of that number may take, if it was named to fail.
-fn named_for(failing: &[FailingPut], call: u64) -> Option<u64>
-    ensures { result ≡ last_named call failing.now }
+fn allowance_of(failing: &[FailingPut], call: u64) -> Option<u64>
+    ensures { result ≡ allowance_of call failing.now }
 {
     failing
         .iter()
@@ -106,22 +106,22 @@ impl Sink for MemorySink {
         ensures never_falls { self.old.faults ≤ self.new.faults }
         ensures empty { piece.now ≡ [] → IsOk result }
         ensures untouched { piece.now ≡ [] → self.new ≡ self.old }
-        ensures fails { 0 < length piece.now → is_err result ≡ put_fails self.old piece.now }
-        ensures after { 0 < length piece.now → self.new ≡ after_put self.old piece.now }
+        ensures fails { 0 < length piece.now → is_err result ≡ is_failing_put self.old piece.now }
+        ensures after { 0 < length piece.now → self.new ≡ sink_after_put self.old piece.now }
     {
         if piece.is_empty() {
             return Ok(());
         }
-        self.puts = raised(self.puts);
-        let named = named_for(&self.failing, self.puts);
+        self.puts = count_after(self.puts);
+        let allowance = allowance_of(&self.failing, self.puts);
         let fits = (piece.len() as u64).min(self.room);
-        let taken = fits.min(named.unwrap_or(fits));
+        let taken = fits.min(allowance.unwrap_or(fits));
         self.room -= taken;
         self.bytes
             .extend_from_slice(&piece[..taken as usize])
             .unwrap();
-        if named.is_some() || (taken as usize) < piece.len() {
-            self.faults = raised(self.faults);
+        if allowance.is_some() || (taken as usize) < piece.len() {
+            self.faults = count_after(self.faults);
             return Err(Failed);
         }
         Ok(())

@@ -1,9 +1,12 @@
-// A shelf of files, the way by which bytes come in.
+//! A shelf of files, the way by which bytes come in.
 ghost use Rattle.std.specs.Prelude.{◌≡◌, ℕ, ◌+◌, ◌≤◌, List, [], length, Option, IfSome, OnOk, IsErrOf, string_bytes};
 ghost use Rattle.outside_ports.specs.Files.{Files};
-ghost use Rattle.outside_ports.specs.Fetching.{Asks, CountsFetch, GivesFile};
+ghost use Rattle.outside_ports.specs.Fetches.{Asks, CountsFetch, GivesFile};
 
 use crate::fault::FetchFault;
+
+/// The greatest limit that a fetch may be given, in bytes.
+pub const MAX_LIMIT: u64 = 268_435_456;
 
 /// Files by name.
 ///
@@ -19,7 +22,8 @@ pub trait Shelf {
     /// How many faults came so far, at most 2^64 - 1.
     ghost faults: { Self → ℕ };
 
-    /// Fetches the file `name`, of at most `limit` bytes, into `into`.
+    /// Fetches the file `name`, of at most `limit` bytes, into `into`, which is empty before. The limit
+    /// is at most [`MAX_LIMIT`].
     ///
     /// `Failed` comes only where the count of faults rose in this call; a name that the shelf
     /// doesn't have is such a fault. `TooLong` comes where the file is longer than the limit;
@@ -27,7 +31,7 @@ pub trait Shelf {
     /// the name or the bytes. After each refusal `into` holds first bytes of the file.
     fn fetch(&mut self, name: &String, limit: u64, into: &mut Vec<u8>) -> Result<(), FetchFault>
         requires empty { into.old.items ≡ [] }
-        requires limit { limit ≤ 268435456 }
+        requires limit { limit ≤ MAX_LIMIT }
         ensures held { held self.new ≡ held self.old }
         ensures asked { Asks result
             (asked self.old) (string_bytes name.now) (asked self.new) into.new.items }

@@ -1,6 +1,6 @@
-// A sink of bytes, the way by which bytes go out.
+//! A sink of bytes, the way by which bytes go out.
 ghost use Rattle.std.specs.Prelude.{◌≡◌, ℕ, ◌≤◌, List, [], Option, IsOk};
-ghost use Rattle.outside_ports.specs.Putting.{AppendsPiece, CountsPut};
+ghost use Rattle.outside_ports.specs.Puts.{AppendsPiece, CountsPut};
 
 use crate::fault::Failed;
 

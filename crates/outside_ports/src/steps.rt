@@ -1,4 +1,4 @@
-// A counter of steps, for proofs alone.
+//! A counter of steps, for proofs alone.
 ghost use Rattle.std.specs.Prelude.{◌≡◌, ◌+◌, ◌<◌};
 
 use std::marker::Model;

@@ -1,4 +1,4 @@
-use Rattle.std.proofs.Common.{◌≡◌, ◌<◌, ℕ, List, Some, map}
+use Rattle.std.proofs.Common.{◌≡◌, ◌<◌, ℕ, List, Some, map, true}
 use Rattle.csv.specs.Reading.{Reached, Ready, default_config, source_of, strip_bom}
 use Rattle.csv.specs.Records.{fields_of}
 use Rattle.csv.specs.declared.parser.State.TheVariants as st
@@ -11,6 +11,7 @@ invariant-loop-row l = record {
   untrimmed : l.row-iterator.rdr.trim ≡ trim.None;
   ready : Ready l.row-iterator.rdr;
   left : 0 < l.row-iterator.left;
+  flexible : l.row-iterator.rdr.flexible ≡ true;
   config : l.row-iterator.rdr.config ≡ default_config;
   reached : (y : List ℕ) × (source_of (λ s. Some s.now) l.row-iterator.rdr ≡ Some y)
       × Reached default_config st.StartRecord (strip_bom l.fn.bytes) (map fields_of l.rows.items) l.row-iterator.rdr.state y;

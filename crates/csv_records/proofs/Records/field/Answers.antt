@@ -11,4 +11,4 @@ unreachable-requires c =
 pub returns : goal.returns
 returns c =
     let row = row_at c.args.self.now c.self.inside.rows.items c.args.row c.index.result.now c.self.view_is c.requires.row c.index.ensures in
-    rw row (c.trimmed_field.ensures ∙ field_of (fields_of c.index.result.now) c.args.column c.in-Some.field.now (rw row at c.requires.column) c.in-Some.ensures.value)
+    rw row (c.trimmed_field.ensures.value ∙ field_of (fields_of c.index.result.now) c.args.column c.in-Some.field.now (rw row at c.requires.column) c.in-Some.ensures.value)

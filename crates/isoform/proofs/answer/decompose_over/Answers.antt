@@ -1,6 +1,6 @@
 use Rattle.std.proofs.Common.{ap, sym, ◌∙◌}
 use Rattle.isoform.specs.Requested.{decompose_requested}
-use Rattle.isoform.specs.Alphabet.{alphabet_of}
+use Rattle.alphabet_text.specs.AlphabetAnswers.{alphabet_of}
 use Rattle.isoform.specs.Candidates.{candidates, with_lines}
 use Rattle.isoform.specs.Report.{formula_line}
 use Rattle.isoform.proofs.ReportLines.{answer-alphabet}
@@ -11,9 +11,7 @@ returns c =
     let table = c.args.table.now in
     let request = decompose_requested c.args.request.now in
     let line = formula_line table request.mass in
-    let alphabet = c.in_ok-alphabet.alphabet.items in
-    let head = c.in_ok-report.report.items in
-    answer-alphabet request table alphabet (ap (alphabet_of table) (sym c.as_bytes.ensures.value) ∙ c.in_ok-alphabet.ensures.value)
+    let alphabet = c.in_ok-alphabet.alphabet in
+    answer-alphabet request table alphabet (ap (alphabet_of table) (sym c.as_bytes.ensures.value) ∙ c.in_ok-alphabet.ensures.gives)
     ∙ ap (λ h. with_lines h line (candidates alphabet request.mass request.da)) (sym c.in_ok-report.ensures)
-    ∙ ap (λ a. with_lines head line (candidates a request.mass request.da)) (sym c.deref.ensures.value)
     ∙ c.in_ok-push_candidates.ensures

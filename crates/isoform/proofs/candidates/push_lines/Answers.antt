@@ -2,28 +2,28 @@ use Rattle.std.proofs.Common.{◌≡◌, ◌++◌, ◌∷◌, [], ap, ◌∙◌,
 use Rattle.std.specs.Prelude.{Some, None}
 use Rattle.std.specs.List.{flat_map, filter_map}
 use Rattle.decompose.specs.Enumeration.{left}
-use Rattle.isoform.specs.Candidates.{formula_of_counts}
+use Rattle.isoform.specs.Candidates.{formula_of_items}
 use Rattle.isoform.specs.Report.{formula_line}
 use Rattle.isoform.proofs.FormulaLines.{none_more, some_more, line_more, more_than, moved, with_lines-too_many}
 use Rattle.isoform.proofs.candidates.push_lines.Goals as goal
 
-pub returns-then-found-eq-CANDIDATE_LIMIT : goal.returns-then-found-eq-CANDIDATE_LIMIT
-returns-then-found-eq-CANDIDATE_LIMIT g c =
-    let formula = formula_of_counts c.args.alphabet.now in
+pub returns-then-found-eq-MAX_CANDIDATES : goal.returns-then-found-eq-MAX_CANDIDATES
+returns-then-found-eq-MAX_CANDIDATES g c =
+    let formula = formula_of_items c.args.items.now in
     let done = c.lists.invariant.0 in
     let counts = c.next_into.new.out in
     let is : formula counts ≡ Some c.in-Some.formula = ap formula (sym c.counts-in-lists.ensures) ∙ sym c.in_ok-formula.ensures.formula ∙ c.in-Some.is in
     with_lines-too_many c.args.report.now.items (formula_line c.args.table.now c.args.asked) (filter_map formula (left c.args.decomps.now))
     (more_than formula done (left c.next_into.new.self) (left c.args.decomps.now) counts c.in-Some.formula 1048576 is
-    (sym c.lists.invariant.3 ∙ c.if-found-eq-CANDIDATE_LIMIT.true)
+    (sym c.lists.invariant.3 ∙ c.if-found-eq-MAX_CANDIDATES.true)
     (ap (λ l. done ++ l) (sym c.lists-test.ensures.next) ∙ c.lists.invariant.1))
 
 pub push_formula_line-requires : goal.push_formula_line-requires
-push_formula_line-requires g c = rw c.in-Some.is at (c.in_ok-formula.ensures.items c.args.table.now c.requires.alphabet)
+push_formula_line-requires g c = rw c.in-Some.is at (c.in_ok-formula.ensures.items c.args.table.now c.requires.known)
 
 pub lists-preserved-in-Some : goal.lists-preserved-in-Some
 lists-preserved-in-Some g c =
-    let formula = formula_of_counts c.args.alphabet.now in
+    let formula = formula_of_items c.args.items.now in
     let line = formula_line c.args.table.now c.args.asked in
     let done = c.lists.invariant.0 in
     let counts = c.next_into.new.out in
@@ -42,7 +42,7 @@ lists-preserved-in-Some g c =
 
 pub lists-preserved : goal.lists-preserved
 lists-preserved g c =
-    let formula = formula_of_counts c.args.alphabet.now in
+    let formula = formula_of_items c.args.items.now in
     let line = formula_line c.args.table.now c.args.asked in
     let done = c.lists.invariant.0 in
     let counts = c.next_into.new.out in

@@ -8,7 +8,9 @@ use Rattle.isoform.proofs.run.serve.Goals as goal
 pub returns-in-Err-clause-shows : goal.returns-in-Err-clause-shows
 returns-in-Err-clause-shows g c =
     let words = map string_bytes c.args.words.now in
-    of_files_map (λ files any. refused_words_show words files _ c.in-Err.fault c.in-Err.ensures) (some_files (g.H.Shelf.held c.args.shelf.now))
+    rw c.from.ensures
+    (of_files_map (λ files any. refused_words_show words files _ c.in-Err.fault c.in-Err.ensures)
+    (some_files (g.H.Shelf.held c.args.shelf.now)))
 
 pub returns-in-Ok-serve_request-clause-shows : goal.returns-in-Ok-serve_request-clause-shows
 returns-in-Ok-serve_request-clause-shows g c =

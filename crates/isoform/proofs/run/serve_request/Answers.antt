@@ -17,6 +17,6 @@ returns-in_err-report-clause-shows g c =
     (of_files_map
     (λ files fetched.
     part_shows _ (answer_of_bytes request bytes) _ _ _ refusal c.in_err-report.ensures.value
-    (λ fault is. answer-fetched request files c.in_ok-bytes.bytes.items (Err fault) fetched (ap (answer_of_bytes request) (sym c.deref.ensures.value) ∙ is))
+    (λ is. answer-fetched request files c.in_ok-bytes.bytes.items (Err refusal) fetched (ap (answer_of_bytes request) (sym c.deref.ensures.value) ∙ is))
     (rw c.table.ensures at c.in_ok-bytes.ensures.asks) c.in_ok-bytes.ensures.counts refl refl)
     (rw c.table.ensures at c.in_ok-bytes.ensures.fetched))

@@ -1,6 +1,6 @@
 -- The rows of each first count stand behind those of the smaller ones.
 use Rattle.std.proofs.Common.{◌≡◌, length, arith, rules}
-use Rattle.isotopologue_list.proofs.CompositionLemmas.{last_place, next_first, all_first, same_front}
+use Rattle.isotopologue_list.proofs.CompositionsByFirst.{last_place, next_first, all_first, same_front}
 use Rattle.isotopologue_list.proofs.composition.+append_compositions.Goals as goal
 
 pub returns-then-place-counts-clause-appended : goal.returns-then-place-counts-clause-appended

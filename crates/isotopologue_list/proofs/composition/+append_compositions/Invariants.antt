@@ -1,5 +1,5 @@
 use Rattle.std.proofs.Common.{◌≡◌, ◌+◌, ◌-◌, ◌++◌, length, take, flat_map}
-use Rattle.isotopologue_list.proofs.CompositionLemmas.{beginning_below}
+use Rattle.isotopologue_list.proofs.CompositionsByFirst.{beginning_below}
 use Rattle.isotopologue_list.proofs.composition.+append_compositions.Given as goal
 
 -- the places that are left

@@ -1,6 +1,6 @@
 -- Each factor gives the number for one isotope more, which is no smaller.
 use Rattle.std.proofs.Common.{◌≡◌, ◌≤◌, ◌<◌, ◌+◌, ◌-◌, ◌*◌, ◌/◌, ◌^◌, ℕ, length, sym, ◌∙◌, ap, arith}
-use Rattle.isotopologue_list.specs.Compositions.{compositions}
+use Rattle.multinomial_bounds.specs.Compositions.{compositions}
 use Rattle.isotopologue_list.proofs.CountLemmas.{many, many_one, many_is, many_some, many_grows, next_factor, product_fits}
 use Rattle.isotopologue_list.proofs.count.compositions_up_to.Goals as goal
 use Rattle.isotopologue_list.proofs.count.compositions_up_to.Goals.{After-at_most-in-loop-place}

@@ -1,6 +1,6 @@
 -- One element more multiplies the number by that of its counts, which is not 0.
 use Rattle.std.proofs.Common.{◌≡◌, ◌≤◌, ◌+◌, ◌-◌, ◌*◌, ℕ, length, ◌∙◌, ap, arith, take}
-use Rattle.isotopologue_list.specs.Compositions.{compositions, isotopologue_count}
+use Rattle.multinomial_bounds.specs.Compositions.{compositions, isotopologue_count}
 use Rattle.isotopologue_list.proofs.CountLemmas.{count_none, count_more, many_is, many_some, left_factor, right_factor, product_some}
 use Rattle.isotopologue_list.proofs.count.count_up_to.Goals as goal
 use Rattle.isotopologue_list.proofs.count.count_up_to.Goals.{After-compositions_up_to-counts, in-Some-Some, in_default, in_default-2}

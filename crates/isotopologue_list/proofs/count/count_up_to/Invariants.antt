@@ -1,5 +1,5 @@
 use Rattle.std.proofs.Common.{◌≤◌, SomeIff, take}
-use Rattle.isotopologue_list.specs.Compositions.{isotopologue_count}
+use Rattle.multinomial_bounds.specs.Compositions.{isotopologue_count}
 use Rattle.isotopologue_list.proofs.count.count_up_to.Given as goal
 
 -- how many there are for the elements so far

@@ -5,8 +5,9 @@ use Rattle.multinomial_bounds.specs.declared.enclosure.Enclosure.{Enclosure}
 use Rattle.multinomial_bounds.specs.Bounds.{floor_of, ceiling_of}
 use Rattle.multinomial_bounds.specs.Path.{bound_of, atoms_above}
 use Rattle.multinomial_bounds.proofs.ModeLemmas.{length-mode_of_atoms}
-use Rattle.isotopologue_list.specs.Compositions.{compositions, composition_at}
-use Rattle.isotopologue_list.specs.Listed.{ends_of_counts}
+use Rattle.multinomial_bounds.specs.Compositions.{compositions}
+use Rattle.isotopologue_list.specs.Nearest.{composition_at}
+use Rattle.isotopologue_list.specs.ListedParts.{ends_of_counts}
 use Rattle.isotopologue_list.proofs.ParentLemmas.{IsMoveDown, IsMoveDown-from}
 use Rattle.isotopologue_list.proofs.enclosures.enclosure_by_parent.Goals as goal
 use Rattle.isotopologue_list.proofs.enclosures.enclosure_by_parent.Goals.{After-write_parent-from, After-move_down}

@@ -4,8 +4,8 @@ use Rattle.std.proofs.lemmas.List.{length-map, map-set}
 use Rattle.multinomial_bounds.specs.declared.enclosure.Enclosure.{Enclosure}
 use Rattle.multinomial_bounds.specs.Weight.{IsCounts}
 use Rattle.multinomial_bounds.specs.Mode.{mode_of_atoms}
-use Rattle.isotopologue_list.specs.Compositions.{composition_at}
-use Rattle.isotopologue_list.specs.Listed.{ends_of_counts}
+use Rattle.isotopologue_list.specs.Nearest.{composition_at}
+use Rattle.isotopologue_list.specs.ListedParts.{ends_of_counts}
 use Rattle.isotopologue_list.proofs.ParentLemmas.{ends_of_mode}
 use Rattle.isotopologue_list.proofs.SearchLemmas.{row_inside, row_at_place, composition_at-IsCounts}
 use Rattle.isotopologue_list.proofs.NearestLemmas.{IsNearestFirst, IsNearestFirst-from, AreKnown-none, AreKnown-nearer, AreKnown-more, AreKnown-all}

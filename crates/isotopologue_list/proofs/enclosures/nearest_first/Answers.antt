@@ -1,8 +1,8 @@
 -- The moves are listed place by place, and put in order.
 use Rattle.std.proofs.Common.{◌≡◌, ℕ, ◌<◌, length, sum, ◌∙◌, ap, arith, rules}
 use Rattle.std.proofs.lemmas.List.Sorted.{IsNonDecreasingBy-from_sort_by_key}
-use Rattle.isotopologue_list.specs.Compositions.{compositions, composition_at}
-use Rattle.isotopologue_list.specs.Nearest.{moves_to_all}
+use Rattle.multinomial_bounds.specs.Compositions.{compositions}
+use Rattle.isotopologue_list.specs.Nearest.{composition_at, moves_to_all}
 use Rattle.isotopologue_list.proofs.SearchLemmas.{row_count, row_at_place, composition_at-IsCounts}
 use Rattle.isotopologue_list.proofs.NearestLemmas.{moves_to_first, moves_to_first-none, moves_to_first-more, moves_to_first-all}
 use Rattle.isotopologue_list.proofs.enclosures.nearest_first.Goals as goal

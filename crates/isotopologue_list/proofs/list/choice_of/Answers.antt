@@ -1,7 +1,7 @@
 -- Each division leaves out the choices of one element more.
 use Rattle.std.proofs.Common.{◌≡◌, ◌<◌, ◌+◌, ◌-◌, ◌/◌, ◌%◌, [], ℕ, length, get_or, ◌∙◌, ap, arith, drop}
-use Rattle.isotopologue_list.specs.Compositions.{choices}
-use Rattle.isotopologue_list.proofs.PlaceLemmas.{is_item, items-some, none_after, one_more_after}
+use Rattle.multinomial_bounds.specs.Compositions.{choices}
+use Rattle.isotopologue_list.proofs.ChoicesByPlace.{is_item, items-some, none_after, one_more_after}
 use Rattle.isotopologue_list.proofs.list.choice_of.Goals as goal
 use Rattle.isotopologue_list.proofs.list.choice_of.Goals.{After-len-choice, After-len}
 

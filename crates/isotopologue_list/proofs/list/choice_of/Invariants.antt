@@ -1,5 +1,5 @@
 use Rattle.std.proofs.Common.{◌≡◌, ◌+◌, ◌≤◌, ◌/◌, length, drop}
-use Rattle.isotopologue_list.specs.Compositions.{choices}
+use Rattle.multinomial_bounds.specs.Compositions.{choices}
 use Rattle.isotopologue_list.proofs.list.choice_of.Given as goal
 
 -- the place over the number of choices of the later elements so far

@@ -17,16 +17,16 @@ loop-item-preserved c =
     elim c.if-item-eq0.branch [
       | then-item-eq0 w ↦
           let own = isotopes_of c.args.table.now part.0 in
-          let n = w.occurring.result in
+          let n = w.isotope_count.result in
           let front = isotopes-front c.args.table.now c.args.items.now c.loop-item.item-index part c.loop-item-test.true c.loop-item-item.is w.if-item-eq0.true in
-          let here : n ≡ length own = w.occurring.ensures ∙ ap length w.isotopes_of-isotopes.ensures.occurring in
+          let here : n ≡ length own = w.isotope_count.ensures ∙ ap length w.isotopes_of-isotopes.ensures.that_occur in
           let left : c.if-item-eq0.rest.now ≡ drop n rest = ap (λ (r : Bor (List ℕ)). r.now) w.rest-is ∙ w.split_at.ensures.back in
           let agrees = rest-agrees all own others rest n front here c.loop-item.invariant.agree in
           let masses = mass-parts all own others rest n front here in
           let sums = sum-parts n rest in
           let own_mass : w.element_mass-mass.result ≡ counts_mass own (take n rest) =
           w.element_mass-mass.ensures.mass
-          ∙ ap (λ (xs : List Isotope). counts_mass xs w.split_at.result.0.now) w.isotopes_of-isotopes.ensures.occurring
+          ∙ ap (λ (xs : List Isotope). counts_mass xs w.split_at.result.0.now) w.isotopes_of-isotopes.ensures.that_occur
           ∙ ap (counts_mass own) w.split_at.ensures.front in
           let own_sum : sum w.split_at.result.0.now ≡ sum (take n rest) = ap sum w.split_at.ensures.front in
           let left_mass : counts_mass others c.if-item-eq0.rest.now ≡ counts_mass others (drop n rest) = ap (counts_mass others) left in

@@ -2,6 +2,8 @@
 use Rattle.std.proofs.Common.{rules, ◌≡◌, sum, arith, ap, ◌∙◌}
 use Rattle.multinomial_bounds.specs.Mode.{mode_of_atoms, mode_bound}
 use Rattle.multinomial_bounds.proofs.ModeLemmas.{sum-IsWeights, sum-mode_of_atoms, length-mode_of_atoms, IsMode-mode_of_atoms, IsEnclosure-mode, IsWeights-positive}
+use Rattle.multinomial_bounds.proofs.LikeliestLemmas.{weight-at-most-mode}
+use Rattle.multinomial_bounds.proofs.WidthLemmas.{width-mode}
 use Rattle.multinomial_bounds.proofs.mode.mode_of.Goals as goal
 
 pub total_weight-total-requires : goal.total_weight-total-requires
@@ -40,3 +42,21 @@ returns-clause-encloses c =
     rw (all, c.loop-drawn.invariant.mode, c.loop-drawn.invariant.lo, c.loop-drawn.invariant.hi)
     (IsEnclosure-mode c.args.weights.now c.requires.weights_in_range.some
     (IsWeights-positive c.args.weights.now c.requires.weights_in_range) c.loop-drawn.drawn)
+
+pub returns-clause-width : goal.returns-clause-width
+returns-clause-width c =
+    let all : c.args.atoms ≡ c.loop-drawn.drawn = omega arith in
+    rw (all, c.loop-drawn.invariant.lo, c.loop-drawn.invariant.hi)
+    (width-mode c.args.weights.now c.requires.weights_in_range c.loop-drawn.drawn)
+
+pub returns-clause-likeliest : goal.returns-clause-likeliest
+returns-clause-likeliest c other is =
+    let ws = c.args.weights.now in
+    let all : c.loop-drawn.drawn ≡ c.args.atoms = omega arith in
+    rw c.loop-drawn.invariant.mode
+    (weight-at-most-mode ws (mode_of_atoms ws c.loop-drawn.drawn) other c.args.atoms c.requires.weights_in_range
+    (IsMode-mode_of_atoms ws c.requires.weights_in_range.some c.loop-drawn.drawn)
+    (record {
+      places_agree = length-mode_of_atoms ws c.loop-drawn.drawn;
+      atoms_agree = sum-mode_of_atoms ws c.requires.weights_in_range.some c.loop-drawn.drawn ∙ all;
+    }) is)

@@ -5,6 +5,7 @@ use Rattle.multinomial_bounds.specs.Mode.{mode_of_atoms}
 use Rattle.multinomial_bounds.specs.Path.{bound_of}
 use Rattle.multinomial_bounds.proofs.ModeLemmas.{length-mode_of_atoms, sum-mode_of_atoms, IsMode-mode_of_atoms}
 use Rattle.multinomial_bounds.proofs.EnclosureLemmas.{IsEnclosure-bound_of}
+use Rattle.multinomial_bounds.proofs.WidthLemmas.{width-bound_of}
 use Rattle.multinomial_bounds.proofs.path.enclose.Goals as goal
 use Rattle.multinomial_bounds.proofs.path.enclose.Goals.{After-deref_mut, After-drop-current}
 
@@ -48,3 +49,8 @@ pub returns-clause-encloses : goal.returns-clause-encloses
 returns-clause-encloses c =
     rw (gives_lo c, gives_hi c)
     (IsEnclosure-bound_of c.args.weights.now c.args.counts.now c.requires.weights_in_range c.requires.same_places)
+
+pub returns-clause-width : goal.returns-clause-width
+returns-clause-width c =
+    rw (gives_lo c, gives_hi c)
+    (width-bound_of c.args.weights.now c.args.counts.now c.requires.weights_in_range c.requires.same_places)

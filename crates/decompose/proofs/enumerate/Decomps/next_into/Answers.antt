@@ -1,7 +1,7 @@
 use Rattle.std.proofs.Common.{refl, ◌∙◌, arith}
 use Rattle.std.proofs.lemmas.Bool.{false≢true}
-use Rattle.decompose.proofs.Rests.{written}
-use Rattle.decompose.proofs.Givens.{none_left, first_left, first_in_box, first_in_window, gives_next, IsEnumeration-gives}
+use Rattle.decompose.proofs.FirstOfSlice.{written}
+use Rattle.decompose.proofs.NextGiven.{none_left, first_left, first_in_box, first_in_window, gives_next, IsEnumeration-gives}
 use Rattle.decompose.proofs.enumerate.Decomps.next_into.Goals as goal
 
 pub returns-then-not-find_left-clause-end : goal.returns-then-not-find_left-clause-end
@@ -9,15 +9,20 @@ returns-then-not-find_left-clause-end g c = (λ _. none_left c.args.self.now c.i
 
 pub invariant_of-self : goal.invariant_of-self
 invariant_of-self g c =
-    let same = written c.find_left.new.out c.out.inside.counts.items _ c.out.inside.counts.ok.0 (omega (arith, c.find_left.auto.out)) in
+    let same =
+    written c.find_left.new.out c.out.inside.counts.items _ c.out.inside.counts.ok.0
+    (omega (arith, c.find_left.auto.out)) in
     let given = c.copy_from_slice.ensures.items ∙ c.deref.ensures.value ∙ same in (
-      omega (arith, c.copy_from_slice.ensures.len, c.self.invariant.0, c.copy_from_slice.new.self.ok.0, c.self.inside.last.ok.0),
+      omega
+          (arith, c.copy_from_slice.ensures.len, c.self.invariant.0, c.copy_from_slice.new.self.ok.0, c.self.inside.last.ok.0),
       IsEnumeration-gives _ _ _ _ _ _ c.self.view_is _ c.if-not-find_left.ensures _ given c.self.invariant.1,
     )
 
 pub returns-clause-next : goal.returns-clause-next
 returns-clause-next g c =
-    let same = written c.find_left.new.out c.out.inside.counts.items _ c.out.inside.counts.ok.0 (omega (arith, c.find_left.auto.out)) in
+    let same =
+    written c.find_left.new.out c.out.inside.counts.items _ c.out.inside.counts.ok.0
+    (omega (arith, c.find_left.auto.out)) in
     let given = c.copy_from_slice.ensures.items ∙ c.deref.ensures.value ∙ same in
     rw same (gives_next _ _ _ _ _ _ c.self.view_is _ c.if-not-find_left.ensures _ given)
 
@@ -28,10 +33,14 @@ returns-clause-end g c =
 
 pub returns-clause-in_box : goal.returns-clause-in_box
 returns-clause-in_box g c =
-    let same = written c.find_left.new.out c.out.inside.counts.items _ c.out.inside.counts.ok.0 (omega (arith, c.find_left.auto.out)) in
+    let same =
+    written c.find_left.new.out c.out.inside.counts.items _ c.out.inside.counts.ok.0
+    (omega (arith, c.find_left.auto.out)) in
     rw same (first_in_box c.args.self.now c.find_left.new.out c.if-not-find_left.ensures)
 
 pub returns-clause-in_window : goal.returns-clause-in_window
 returns-clause-in_window g c =
-    let same = written c.find_left.new.out c.out.inside.counts.items _ c.out.inside.counts.ok.0 (omega (arith, c.find_left.auto.out)) in
+    let same =
+    written c.find_left.new.out c.out.inside.counts.items _ c.out.inside.counts.ok.0
+    (omega (arith, c.find_left.auto.out)) in
     rw same (first_in_window c.args.self.now c.find_left.new.out c.if-not-find_left.ensures)

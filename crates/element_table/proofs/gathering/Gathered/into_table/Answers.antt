@@ -1,6 +1,8 @@
 use Rattle.std.proofs.Common.{◌≡◌, ◌≤◌, Some, None, Ok, refl, sym, ap, rules, arith}
 use Rattle.std.specs.Option.{ForSome}
 use Rattle.std.proofs.lemmas.Grind.{common_steps}
+use Rattle.element_table.specs.Limits.{min_electron_mass, max_electron_mass}
+use Rattle.element_table.specs.Elements.{IsTable}
 use Rattle.element_table.specs.TableRows.{weightless}
 use Rattle.element_table.proofs.Weights.{IsTable-from_weighted}
 use Rattle.element_table.proofs.gathering.Gathered.into_table.Goals as goal
@@ -14,19 +16,42 @@ electron c = grind (arith, common_steps)
 elements : (c : In_ok-elements) → c.in_ok-elements.elements.items ≡ c.args.self.elements
 elements c = search rules
 
+-- and where none is without weight, they make a table
+table : (c : In_ok-elements) → weightless c.in_ok-elements.elements.items ≡ None
+    → IsTable (record { electron = c.in_ok-electron.electron; elements = c.in_ok-elements.elements.items })
+table c none =
+    let within : ForSome c.args.self.electron (λ mass. (min_electron_mass ≤ mass) × (mass ≤ max_electron_mass)) =
+    rw (← c.self.view_is) c.self.invariant.electron_ok in
+    IsTable-from_weighted _ _ (within _ (electron c))
+    (rw (elements c, ← c.self.view_is) c.self.invariant.elements_ok) none
+
 pub new-requires : goal.new-requires
 new-requires c =
     let none : weightless c.in_ok-elements.elements.items ≡ None = grind (arith, common_steps) in
-    let within : ForSome c.args.self.electron (λ mass. (1 ≤ mass) × (mass ≤ 1000000000)) = rw (← c.self.view_is) c.self.invariant.electron_ok in
-    IsTable-from_weighted _ _ (within _ (electron (goal.at.new-requires c).In_ok-elements))
-    (rw (elements (goal.at.new-requires c).In_ok-elements, ← c.self.view_is) c.self.invariant.elements_ok) none
+    table (goal.at.new-requires c).In_ok-elements none
 
-pub returns-in-Some : goal.returns-in-Some
-returns-in-Some c =
+pub returns-in-Some-clause-table : goal.returns-in-Some-clause-table
+returns-in-Some-clause-table c =
     let some : weightless c.in_ok-elements.elements.items ≡ Some c.in-Some.element.now = cc in
-    rw (electron (goal.at.returns-in-Some c).In_ok-elements, ← elements (goal.at.returns-in-Some c).In_ok-elements, some, c.symbol.ensures.symbol) refl
+    rw (
+      electron (goal.at.returns-in-Some-clause-table c).In_ok-elements,
+      ← elements
+          (goal.at.returns-in-Some-clause-table c).In_ok-elements,
+      some,
+      c.symbol.ensures.symbol,
+    ) refl
 
-pub returns-in-None : goal.returns-in-None
-returns-in-None c =
+pub returns-in-None-clause-table : goal.returns-in-None-clause-table
+returns-in-None-clause-table c =
     let none : weightless c.in_ok-elements.elements.items ≡ None = grind (arith, common_steps) in
-    rw (electron (goal.at.returns-in-None c).In_ok-elements, ← elements (goal.at.returns-in-None c).In_ok-elements, none) (ap Ok (sym c.new.ensures))
+    rw (
+      electron (goal.at.returns-in-None-clause-table c).In_ok-elements,
+      ← elements
+          (goal.at.returns-in-None-clause-table c).In_ok-elements,
+      none,
+    ) (ap Ok (sym c.new.ensures))
+
+pub returns-in-None-clause-within : goal.returns-in-None-clause-within
+returns-in-None-clause-within c =
+    let none : weightless c.in_ok-elements.elements.items ≡ None = grind (arith, common_steps) in
+    rw c.new.ensures (table (goal.at.returns-in-None-clause-within c).In_ok-elements none)

@@ -3,10 +3,10 @@ use Rattle.std.proofs.Common.{◌≡◌, ℕ, length, map, sym, ◌∙◌, ap, a
 use Rattle.std.specs.Prelude.{flat_map}
 use Rattle.std.proofs.lemmas.List.{length-map}
 use Rattle.std.proofs.lemmas.Grind.{common_steps}
-use Rattle.isotopologue_list.specs.Compositions.{compositions, counts_of}
-use Rattle.isotopologue_list.specs.Listed.{ends_of_counts}
+use Rattle.multinomial_bounds.specs.Compositions.{compositions, counts_of}
+use Rattle.isotopologue_list.specs.ListedParts.{ends_of_counts}
 use Rattle.isotopologue_list.proofs.RowLemmas.{rows-end_to_end, length-end_to_end}
-use Rattle.isotopologue_list.proofs.CountsLemmas.{compositions-IsCounts}
+use Rattle.multinomial_bounds.proofs.CompositionLemmas.{compositions-IsCounts}
 use Rattle.isotopologue_list.proofs.element_list.ElementList.of.Goals as goal
 use Rattle.isotopologue_list.proofs.element_list.ElementList.of.Goals.{In_ok-enclosures}
 

@@ -2,7 +2,7 @@
 use Rattle.std.proofs.Common.{◌≡◌, ◌<◌, ◌/◌, ◌%◌, [], ℕ, length, get_or, sym, ◌∙◌, ap, rules}
 use Rattle.std.proofs.Math.Nat.{mod-lt}
 use Rattle.isotopologue_list.specs.Listed.{BoundedCounts}
-use Rattle.isotopologue_list.proofs.PlaceLemmas.{is_item, items-some, after, all_after, place_inside, element_inside, element_counts}
+use Rattle.isotopologue_list.proofs.ChoicesByPlace.{is_item, items-some, after, all_after, place_inside, element_inside, element_counts}
 use Rattle.isotopologue_list.proofs.list.IsotopologueList.counts.Goals as goal
 use Rattle.isotopologue_list.proofs.list.IsotopologueList.counts.Goals.{After-as_slice-elements, After-choice_of}
 

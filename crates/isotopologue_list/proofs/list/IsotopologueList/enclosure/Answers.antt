@@ -1,11 +1,11 @@
 -- The enclosures that are kept are those of the isotopologues.
 use Rattle.std.proofs.Common.{◌≡◌, ℕ, get_or, map, ◌∙◌, ap}
-use Rattle.isotopologue_list.specs.Listed.{BoundedIsotopologue}
+use Rattle.isotopologue_sets.specs.Covers.{Member}
 use Rattle.isotopologue_list.proofs.ProductLemmas.{same_at}
 use Rattle.isotopologue_list.proofs.list.IsotopologueList.enclosure.Goals as goal
 use Rattle.isotopologue_list.proofs.list.IsotopologueList.enclosure.Goals.{After-index}
 
-same_ends : (c : After-index) (d : BoundedIsotopologue) →
+same_ends : (c : After-index) (d : Member) →
     let e : ℕ × ℕ = (c.index.result.now.lo, c.index.result.now.hi) in
     e ≡ ((get_or c.args.self.now c.args.place d).lo, (get_or c.args.self.now c.args.place d).hi)
 same_ends c d =

@@ -4,11 +4,10 @@ use Rattle.std.proofs.lemmas.List.{take_all}
 use Rattle.std.proofs.lemmas.List.Elements.{All-more}
 use Rattle.multinomial_bounds.specs.Weight.{IsWeights}
 use Rattle.multinomial_bounds.specs.Isotopologue.{Element}
-use Rattle.isotopologue_list.specs.Compositions.{choices, isotopologues_of}
-use Rattle.isotopologue_list.specs.Listed.{isotopologue_from, bounded_isotopologue}
-use Rattle.isotopologue_list.proofs.ListingLemmas.{bounded_counts_of, listed, listed-IsEnclosure, listed-IsIsotopologue, listed-elements, next_listed, all_ends}
-use Rattle.isotopologue_list.proofs.OrderLaws.{listed_in_order}
-use Rattle.isotopologue_list.proofs.MemberLaws.{listed_complete}
+use Rattle.multinomial_bounds.specs.Compositions.{choices, isotopologues_of}
+use Rattle.isotopologue_sets.specs.Covers.{member_of}
+use Rattle.isotopologue_list.specs.ListedParts.{isotopologue_from}
+use Rattle.isotopologue_list.proofs.ListingLemmas.{bounded_counts_of, listed, listed_complete, listed_in_order, listed-IsEnclosure, listed-IsIsotopologue, listed-elements, next_listed, all_ends}
 use Rattle.isotopologue_list.proofs.list.IsotopologueList.of.Goals as goal
 use Rattle.isotopologue_list.proofs.list.IsotopologueList.of.Goals.{In_ok-append_products}
 
@@ -28,7 +27,7 @@ whole c = take_all c.loop-element.element-index c.args.elements.now (omega arith
 
 view_is : (c : In_ok-append_products) →
     map isotopologue_from (choices c.loop-element.lists.items)
-    ≡ map (bounded_isotopologue c.args.elements.now) (isotopologues_of c.args.elements.now)
+    ≡ map (member_of c.args.elements.now) (isotopologues_of c.args.elements.now)
 view_is c =
     ap (λ lists. map isotopologue_from (choices lists))
     (c.loop-element.invariant.listed ∙ ap (map bounded_counts_of) (whole c))

@@ -1,6 +1,6 @@
 use Rattle.std.proofs.Common.{◌++◌, take}
 use Rattle.std.proofs.KnownBytes.{Appends-trans, Appends-kept}
-use Rattle.outside_ports.proofs.Passing.{first_bytes, moves_front}
+use Rattle.outside_ports.proofs.PassedPieces.{first_bytes, moves_front}
 use Rattle.outside_ports.proofs.stream_sink.StreamSinkSink.put.Goals as goal
 
 pub loop-rest-preserved : goal.loop-rest-preserved
@@ -8,8 +8,14 @@ loop-rest-preserved g c =
     let (same, passed) = c.loop-rest.invariant in
     let (done, split, appended) = passed in
     let rest = c.loop-rest.rest.now in
-    let n = c.in-Ok.taken in
-    (same, (done ++ take n rest, moves_front _ done rest n split, Appends-trans _ _ _ _ _ appended c.in-Ok.ensures.bytes))
+    let n = c.in-Ok.taken in (
+      same,
+      (
+        done ++ take n rest,
+        moves_front _ done rest n split,
+        Appends-trans _ _ _ _ _ appended c.in-Ok.ensures.bytes,
+      ),
+    )
 
 pub returns-in-Ok-eq0-clause-passed_on : goal.returns-in-Ok-eq0-clause-passed_on
 returns-in-Ok-eq0-clause-passed_on g c =

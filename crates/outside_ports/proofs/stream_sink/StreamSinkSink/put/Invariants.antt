@@ -6,7 +6,8 @@ use Rattle.outside_ports.proofs.stream_sink.StreamSinkSink.put.Given as goal
 abbrev pub invariant-loop-rest : goal.invariant-loop-rest
 invariant-loop-rest g l =
     (l.self-inside.faults ≡ l.initial.self-inside.faults)
-    × ((done : List ℕ) × (l.fn.piece ≡ done ++ l.rest) × Appends (g.W.Write.contents l.initial.self-inside.to) (g.W.Write.contents l.self-inside.to) done)
+    × ((done : List ℕ) × (l.fn.piece ≡ done ++ l.rest)
+    × Appends (g.W.Write.contents l.initial.self-inside.to) (g.W.Write.contents l.self-inside.to) done)
 
 abbrev pub decreases-loop-rest : goal.decreases-loop-rest
 decreases-loop-rest g l = length l.rest

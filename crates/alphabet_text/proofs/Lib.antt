@@ -1,0 +1,12 @@
+pub mod RangeTails
+pub mod RangeValues
+pub mod OneReading
+pub mod ReadRows
+pub mod HighPlaces
+pub mod EntryOrder
+pub mod AlphabetLists
+pub mod TableIsotopes
+pub mod GatheredEntries
+pub mod SortedEntries
+pub mod KnownItems
+pub mod FirstFaults

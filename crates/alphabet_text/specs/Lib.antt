@@ -1,0 +1,10 @@
+pub mod AlphabetFaults
+pub mod AlphabetTexts
+pub mod Alphabets
+pub mod AlphabetReadings
+pub mod AlphabetAnswers
+pub mod WrittenEntries
+pub use Rattle.reader_answers.specs.Answers
+pub use Rattle.decompose.specs.CountLists
+pub use Rattle.formula_text.specs.Masses
+pub use Rattle.element_table.specs.Elements

@@ -1,0 +1,11 @@
+pub mod EachOnce
+pub mod CoverOrder
+pub mod GreatestSums
+pub mod FewestLaws
+pub mod FallingOrder
+pub mod LayerLaws
+pub mod SetBounds
+pub mod AllReach
+pub mod FirstThreshold
+pub mod CoverMembers
+pub mod CoverClaims

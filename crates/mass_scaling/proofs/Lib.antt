@@ -1,0 +1,2 @@
+pub mod IonRanges
+pub mod CopiedMasses

@@ -1,0 +1,4 @@
+pub mod Limits
+pub mod Tolerances
+pub mod Windows
+pub mod Ranges

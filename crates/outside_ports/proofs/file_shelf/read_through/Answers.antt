@@ -1,9 +1,0 @@
-use Rattle.std.proofs.Common.{arith}
-use Rattle.outside_ports.proofs.Reading.{read_enough}
-use Rattle.outside_ports.proofs.file_shelf.read_through.Goals as goal
-
-pub returns-clause-reads : goal.returns-clause-reads
-returns-clause-reads g c =
-    let (within, gone) = c.loop-block.invariant in
-    let (read, is, consumed) = gone in
-    read_enough _ _ _ _ read _ is consumed (omega arith)

@@ -1,0 +1,9 @@
+pub mod ListMaps
+pub mod ListedLayers
+pub mod LayerOfPlaces
+pub mod MemberRowLaws
+pub mod ChosenMembers
+pub mod FewestBounds
+pub mod Modes
+pub mod FirstReaching
+pub mod CoverNumbers

@@ -1,0 +1,8 @@
+use Rattle.std.proofs.Common.{◌≡◌, ℕ, ◌<◌, ◌^◌, take}
+use Rattle.std.specs.List.{sum_by}
+use Rattle.reaching_layer.proofs.fewest.fewest_lower.Given as goal
+
+abbrev pub invariant-loop-count : goal.invariant-loop-count
+invariant-loop-count l =
+    (l.total ≡ sum_by (λ e. e.lo) (take l.count l.enclosures)) × (l.total < 2 ^ 65) × (l.wanted ≡ l.coverage)
+    × ((k : ℕ) → k < l.count → sum_by (λ e. e.lo) (take k l.enclosures) < l.coverage)

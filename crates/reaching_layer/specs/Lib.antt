@@ -1,0 +1,10 @@
+pub use Rattle.multinomial_bounds.specs.Bounds
+pub use Rattle.multinomial_bounds.specs.Isotopologue
+pub use Rattle.reader_answers.specs.Answers
+pub use Rattle.isotopologue_sets.specs.Layers
+pub use Rattle.isotopologue_sets.specs.Coverage
+pub use Rattle.isotopologue_sets.specs.Covers
+pub mod LayerAnswers
+pub mod CountsByElement
+pub mod MemberRows
+pub mod ListedBounds

@@ -1,0 +1,38 @@
+//! How many bounds, from the first on, total a wanted coverage.
+
+ghost use Rattle.std.specs.Prelude.{◌≡◌, length, sum, sum_by, take};
+ghost use Rattle.isotopologue_sets.specs.Covers.{fewest};
+
+use multinomial_bounds::Enclosure;
+
+/// The least number of bounds, from the first on, that total at least the coverage, and the number of all where
+/// even these don't.
+pub(crate) fn fewest(bounds: &[u64], coverage: u64) -> usize
+    ensures { result ≡ fewest (λ n. sum (take n bounds.now)) coverage (length bounds.now) }
+{
+    let wanted = u128::from(coverage);
+    let mut total: u128 = 0;
+    for (count, bound) in bounds.iter().enumerate() {
+        if total >= wanted {
+            return count;
+        }
+        total += u128::from(*bound);
+    }
+    bounds.len()
+}
+
+/// The least number of enclosures, from the first on, whose lower bounds total at least the coverage, and the number
+/// of all where even these don't.
+pub(crate) fn fewest_lower(enclosures: &[Enclosure], coverage: u64) -> usize
+    ensures { result ≡ fewest (λ n. sum_by (λ e. e.lo) (take n enclosures.now)) coverage (length enclosures.now) }
+{
+    let wanted = u128::from(coverage);
+    let mut total: u128 = 0;
+    for (count, enclosure) in enclosures.iter().enumerate() {
+        if total >= wanted {
+            return count;
+        }
+        total += u128::from(enclosure.lo);
+    }
+    enclosures.len()
+}

@@ -1,0 +1,150 @@
+//! From elements to their reaching layer.
+
+use crate::fault::CoverFault;
+use crate::fewest::fewest;
+use crate::members::Members;
+use crate::order::ordered_places;
+use crate::threshold::{mode_enclosure, reaching_threshold};
+use isotopologue_list::{IsotopologueList, count_up_to};
+use isotopologue_sets::ElementAtoms;
+use multinomial_bounds::Enclosure;
+use std::alloc::{AllocError, Global};
+use std::marker::Model;
+
+/// The most isotopologues that elements may have together.
+pub const MAX_ISOTOPOLOGUES: u64 = 1_048_576;
+
+/// The reaching layer of elements for a wanted coverage: its members by falling lower bound, ties in the
+/// lexicographic order of their counts, of which the first are the cover.
+#[derive(Drop)]
+pub struct ReachingLayer {
+    threshold: u64,
+    size: usize,
+    bound: usize,
+    members: Members,
+}
+
+impl Model for ReachingLayer {
+    ghost use Rattle.std.specs.Prelude.{◌≤◌, length};
+    ghost use Rattle.isotopologue_sets.specs.Covers.{CoverNumbers};
+
+    ghost Value = { CoverNumbers };
+
+    ghost view = { λ l. record { threshold = l.threshold; size = l.size; bound = l.bound; members = l.members } };
+
+    ghost invariant = { λ l. l.size ≤ length l.members };
+}
+
+impl ReachingLayer {
+    ghost use Rattle.std.specs.Prelude.{◌≡◌, ◌<◌, ◌≤◌, length, slice_index_or};
+    ghost use Rattle.std.specs.List.{concat};
+    ghost use Rattle.isotopologue_sets.specs.Covers.{Member};
+
+    /// The threshold of the layer that `reaching_layer` gave, in units of 10^-18: the upper bounds of its members
+    /// are above it.
+    pub fn threshold(&self) -> u64
+        ensures { result ≡ self.now.threshold }
+    {
+        self.threshold
+    }
+
+    /// How many members the cover has. Of the layer that `reaching_layer` gave, as few, from the first one on, as have
+    /// lower bounds that total at least the coverage.
+    pub fn size(&self) -> usize
+        ensures size { result ≡ self.now.size }
+        ensures within { result ≤ length self.now.members }
+    {
+        self.size
+    }
+
+    /// The cover's bound. Of the layer that `reaching_layer` gave, so many of the greatest upper bounds, and no fewer,
+    /// total at least the coverage, so that no set of fewer isotopologues has it.
+    pub fn bound(&self) -> usize
+        ensures { result ≡ self.now.bound }
+    {
+        self.bound
+    }
+
+    /// How many members the layer has.
+    pub fn len(&self) -> usize
+        ensures { result ≡ length self.now.members }
+    {
+        self.members.len()
+    }
+
+    /// The counts of the member at a place in the cover's order, 0 first, one element after another.
+    pub fn counts(&self, place: usize) -> &[u32]
+        requires { place < length self.now.members }
+        ensures { (d : Member) → result.now ≡ concat (slice_index_or self.now.members place d).counts }
+    {
+        self.members.counts(place)
+    }
+
+    /// The enclosure of the member at a place in the cover's order, in units of 10^-18.
+    pub fn enclosure(&self, place: usize) -> Enclosure
+        requires { place < length self.now.members }
+        ensures lo { (d : Member) → result.lo ≡ (slice_index_or self.now.members place d).lo }
+        ensures hi { (d : Member) → result.hi ≡ (slice_index_or self.now.members place d).hi }
+    {
+        self.members.enclosure(place)
+    }
+}
+
+ghost use Rattle.std.specs.Prelude.{◌≡◌, ◌+◌, ◌-◌, ◌*◌, ◌≤◌, All, IfOk, length};
+ghost use Rattle.reader_answers.specs.Answers.{Gives};
+ghost use Rattle.multinomial_bounds.specs.Bounds.{IsEnclosure};
+ghost use Rattle.multinomial_bounds.specs.Isotopologue.{all_atoms, IsIsotopologue, isotopologue_weight, all_weight};
+ghost use Rattle.isotopologue_sets.specs.Layers.{AreElements};
+ghost use Rattle.isotopologue_sets.specs.Coverage.{max_coverage};
+ghost use Rattle.isotopologue_sets.specs.Covers.{cover_numbers, IsCover};
+ghost use Rattle.reaching_layer.specs.LayerAnswers.{is_memory, numbers_unless_wide};
+
+/// The reaching layer of elements for a wanted coverage in units of 10^-18, from 1 to 999,999 * 10^12.
+///
+/// `Wide` comes exactly where the elements have more than 1,048,576 isotopologues together, which is found by
+/// counting them; `Memory` for want of memory. Time and memory are in proportion to their number.
+pub fn reaching_layer(
+    alloc: Global,
+    elements: &[ElementAtoms],
+    coverage: u64,
+) -> Result<ReachingLayer, CoverFault>
+    requires elements { AreElements elements.now }
+    requires some { 1 ≤ coverage }
+    requires below_one { coverage ≤ max_coverage }
+    ensures cover { Gives is_memory result (numbers_unless_wide elements.now coverage) }
+
+    // What follows from these numbers.
+    ensures isotopologues { IfOk result (λ l. All (λ m. IsIsotopologue elements.now m.counts) l.members) }
+    ensures claims { IfOk result (λ l. IsCover elements.now coverage l.size l.bound l.members) }
+    ensures encloses { IfOk result (λ l. All (λ m.
+        IsEnclosure m.lo m.hi (isotopologue_weight elements.now m.counts) (all_weight elements.now)) l.members) }
+    ensures width { IfOk result (λ l. All (λ m.
+        m.hi ≤ m.lo + (2 * all_atoms elements.now + length elements.now - 1)) l.members) }
+{
+    if count_up_to(elements, MAX_ISOTOPOLOGUES).is_none() {
+        return Err(CoverFault::Wide);
+    }
+    Ok(layer_of_all(alloc, elements, coverage)?)
+}
+
+/// The reaching layer of elements all of whose isotopologues are listed.
+fn layer_of_all(
+    alloc: Global,
+    elements: &[ElementAtoms],
+    coverage: u64,
+) -> Result<ReachingLayer, AllocError>
+    requires { AreElements elements.now }
+    ensures { IfOk result (λ l. l ≡ cover_numbers elements.now coverage) }
+{
+    let list = IsotopologueList::of(alloc, elements)?;
+    let mode = mode_enclosure(alloc, elements)?;
+    let threshold = reaching_threshold(list.enclosures(), mode.hi, coverage);
+    let places = ordered_places(alloc, list.enclosures(), threshold)?;
+    let members = Members::at_places(alloc, elements, &list, &places)?;
+    Ok(ReachingLayer {
+        threshold,
+        size: members.fewest_lower(coverage),
+        bound: fewest(&members.greatest_upper_bounds(alloc)?, coverage),
+        members,
+    })
+}

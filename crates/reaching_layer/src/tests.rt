@@ -1,0 +1,298 @@
+//! Values that come from outside: worked examples of layers, and that each call succeeds with ample memory.
+
+ghost use Rattle.std.specs.Prelude.{◌≡◌, ◌+◌, ◌<◌, ◌≤◌, IfOk, OnOk, length};
+ghost use Rattle.multinomial_bounds.specs.Weight.{IsWeights};
+ghost use Rattle.multinomial_bounds.specs.Isotopologue.{all_atoms};
+ghost use Rattle.isotopologue_sets.specs.Layers.{AreElements};
+ghost use Rattle.isotopologue_sets.specs.Coverage.{max_coverage};
+
+use super::*;
+use isotopologue_sets::ElementAtoms;
+use multinomial_bounds::MAX_ATOMS;
+use std::alloc::{AllocError, Global};
+use std::process::Abort;
+use std::test::Fail;
+
+const HALF: u64 = 500_000_000_000_000_000;
+
+const QUARTER: u64 = 250_000_000_000_000_000;
+
+const MOST: u64 = 999_999_000_000_000_000;
+
+/// A list of one element.
+fn only(alloc: Global, weights: &[u64], atoms: u32) -> Result<Vec<ElementAtoms>, AllocError>
+    requires weights_in_range { IsWeights weights.now }
+    requires few_atoms { atoms ≤ MAX_ATOMS }
+    ensures { IfOk result (λ v. AreElements v.items) }
+{
+    let mut elements = Vec::new(alloc);
+    elements.push(ElementAtoms::of(alloc, weights, atoms)?)?;
+    Ok(elements)
+}
+
+/// Adds one element to a list of fewer than 20.
+fn add_element(
+    alloc: Global,
+    elements: &mut Vec<ElementAtoms>,
+    weights: &[u64],
+    atoms: u32,
+) -> Result<(), AllocError>
+    requires weights_in_range { IsWeights weights.now }
+    requires few_of_each { atoms ≤ MAX_ATOMS }
+    requires elements { AreElements elements.old.items }
+    requires room { length elements.old.items < 20 }
+    requires few_atoms { all_atoms elements.old.items + atoms ≤ 20000 }
+    ensures elements { OnOk result (AreElements elements.new.items) }
+    ensures more { OnOk result (length elements.new.items ≡ length elements.old.items + 1) }
+    ensures more_atoms { OnOk result (all_atoms elements.new.items ≡ all_atoms elements.old.items + atoms) }
+{
+    let element = ElementAtoms::of(alloc, weights, atoms)?;
+    elements.push(element)?;
+    Ok(())
+}
+
+/// One atom each of 20 elements of two equal isotopes, which have 2^20 isotopologues of the same probability.
+fn twenty_pairs(alloc: Global) -> Result<Vec<ElementAtoms>, AllocError>
+    ensures { IfOk result (λ v. AreElements v.items) }
+{
+    let mut elements = Vec::new(alloc);
+    for count in 0..20u32 {
+        add_element(alloc, &mut elements, &[1, 1], 1)?;
+    }
+    Ok(elements)
+}
+
+/// What a layer is to be: its members by their counts and bounds.
+#[derive(Clone, Copy)]
+struct Expected<'a> {
+    threshold: u64,
+    size: usize,
+    bound: usize,
+    members: &'a [(&'a [u32], u64, u64)],
+}
+
+fn expect(
+    rt: &impl Abort,
+    alloc: Global,
+    elements: &[ElementAtoms],
+    coverage: u64,
+    expected: Expected,
+) -> Result<(), CoverFault>
+    requires elements { AreElements elements.now }
+    requires some { 1 ≤ coverage }
+    requires below_one { coverage ≤ max_coverage }
+{
+    let layer = reaching_layer(alloc, elements, coverage)?;
+    assert_eq!(rt; layer.threshold(), expected.threshold);
+    assert_eq!(rt; layer.size(), expected.size);
+    assert_eq!(rt; layer.bound(), expected.bound);
+    assert_eq!(rt; layer.len(), expected.members.len());
+    for place in 0..layer.len() {
+        if let Some((counts, lo, hi)) = expected.members.get(place) {
+            assert_eq!(rt; layer.counts(place), *counts);
+            assert_eq!(rt; layer.enclosure(place).lo, *lo);
+            assert_eq!(rt; layer.enclosure(place).hi, *hi);
+        }
+    }
+    Ok(())
+}
+
+#[test]
+fn members_of_equal_bounds_stand_in_lexicographic_order(rt: HostRuntime) -> Result<(), Fail> {
+    let alloc = rt.alloc();
+    let pair = only(alloc, &[500_000_000, 500_000_000], 2)?;
+    let members: &[(&[u32], u64, u64)] = &[
+        (&[1, 1], HALF, HALF),
+        (&[0, 2], QUARTER, QUARTER),
+        (&[2, 0], QUARTER, QUARTER),
+    ];
+    let middle = Expected {
+        threshold: QUARTER,
+        size: 1,
+        bound: 1,
+        members: &members[..1],
+    };
+    expect(&rt, alloc, &pair, HALF, middle)?;
+    let all = Expected {
+        threshold: QUARTER / 2,
+        size: 3,
+        bound: 3,
+        members,
+    };
+    expect(&rt, alloc, &pair, MOST, all)?;
+    Ok(())
+}
+
+// Three of six equal sixths have half of the weights, and the lower bounds of three have less.
+#[test]
+fn three_of_six_equal_isotopes_reach_half_and_four_are_the_cover(
+    rt: HostRuntime,
+) -> Result<(), Fail> {
+    let alloc = rt.alloc();
+    let six = only(alloc, &[100_000_000; 6], 1)?;
+    let (lo, hi) = (166_666_666_666_666_666, 166_666_666_666_666_667);
+    let sixths = Expected {
+        threshold: 83_333_333_333_333_333,
+        size: 4,
+        bound: 3,
+        members: &[
+            (&[0, 0, 0, 0, 0, 1], lo, hi),
+            (&[0, 0, 0, 0, 1, 0], lo, hi),
+            (&[0, 0, 0, 1, 0, 0], lo, hi),
+            (&[0, 0, 1, 0, 0, 0], lo, hi),
+            (&[0, 1, 0, 0, 0, 0], lo, hi),
+            (&[1, 0, 0, 0, 0, 0], lo, hi),
+        ],
+    };
+    expect(&rt, alloc, &six, HALF, sixths)?;
+    Ok(())
+}
+
+#[test]
+fn no_elements_have_one_certain_isotopologue(rt: HostRuntime) -> Result<(), Fail> {
+    let none: Vec<ElementAtoms> = Vec::new(rt.alloc());
+    let certain = 1_000_000_000_000_000_000;
+    let one = Expected {
+        threshold: HALF,
+        size: 1,
+        bound: 1,
+        members: &[(&[], certain, certain)],
+    };
+    expect(&rt, rt.alloc(), &none, MOST, one)?;
+    Ok(())
+}
+
+// The numbers of this layer and of the next are those of the definitions, in Python's whole numbers.
+#[test]
+fn three_elements_have_a_layer_of_eight_of_their_twelve_isotopologues(
+    rt: HostRuntime,
+) -> Result<(), Fail> {
+    let alloc = rt.alloc();
+    let mut elements = Vec::new(alloc);
+    add_element(alloc, &mut elements, &[3, 1], 1)?;
+    add_element(alloc, &mut elements, &[1, 1], 1)?;
+    add_element(alloc, &mut elements, &[2, 1, 1], 1)?;
+    let (first, second, third) = (
+        187_500_000_000_000_000,
+        93_750_000_000_000_000,
+        62_500_000_000_000_000,
+    );
+    let eight = Expected {
+        threshold: 46_875_000_000_000_000,
+        size: 5,
+        bound: 5,
+        members: &[
+            (&[1, 0, 0, 1, 1, 0, 0], first, first),
+            (&[1, 0, 1, 0, 1, 0, 0], first, first),
+            (&[1, 0, 0, 1, 0, 0, 1], second, second),
+            (&[1, 0, 0, 1, 0, 1, 0], second, second),
+            (&[1, 0, 1, 0, 0, 0, 1], second, second),
+            (&[1, 0, 1, 0, 0, 1, 0], second, second),
+            (&[0, 1, 0, 1, 1, 0, 0], third, third),
+            (&[0, 1, 1, 0, 1, 0, 0], third, third),
+        ],
+    };
+    expect(&rt, alloc, &elements, 600_000_000_000_000_000, eight)?;
+    Ok(())
+}
+
+#[test]
+fn one_hundred_atoms_of_three_equal_isotopes_have_a_layer_of_1614(
+    rt: HostRuntime,
+) -> Result<(), Fail> {
+    let three = only(rt.alloc(), &[1; 3], 100)?;
+    let layer = reaching_layer(rt.alloc(), &three, MOST)?;
+    assert_eq!(rt; layer.threshold(), 7_757_866_316);
+    assert_eq!(rt;
+        (layer.len(), layer.size(), layer.bound()),
+        (1_614, 1_584, 1_584)
+    );
+    expect_member(
+        &rt,
+        &layer,
+        0,
+        &[33, 33, 34],
+        (8_134_712_430_416_295, 8_134_712_430_416_326),
+    );
+    expect_member(
+        &rt,
+        &layer,
+        1,
+        &[33, 34, 33],
+        (8_134_712_430_416_295, 8_134_712_430_416_326),
+    );
+    expect_member(
+        &rt,
+        &layer,
+        1_583,
+        &[59, 22, 19],
+        (9_549_780_072, 9_549_780_074),
+    );
+    expect_member(
+        &rt,
+        &layer,
+        1_613,
+        &[59, 23, 18],
+        (7_888_948_755, 7_888_948_757),
+    );
+    Ok(())
+}
+
+/// Holds the member at a place against these counts and bounds.
+fn expect_member(
+    rt: &impl Abort,
+    layer: &ReachingLayer,
+    place: usize,
+    counts: &[u32],
+    bounds: (u64, u64),
+) {
+    assert!(rt; place < layer.len());
+    assert_eq!(rt; layer.counts(place), counts);
+    let enclosure = layer.enclosure(place);
+    assert_eq!(rt; (enclosure.lo, enclosure.hi), bounds);
+}
+
+#[test]
+fn as_many_isotopologues_as_are_listed_have_a_layer(rt: HostRuntime) -> Result<(), Fail> {
+    let elements = twenty_pairs(rt.alloc())?;
+    let layer = reaching_layer(rt.alloc(), &elements, 2_861_022_949_218)?;
+    assert_eq!(rt; layer.threshold(), 476_837_158_203);
+    assert_eq!(rt;
+        (layer.len(), layer.size(), layer.bound()),
+        (1_048_576, 3, 3)
+    );
+    Ok(())
+}
+
+// 7 * 163 * 919 are 1,048,579: no elements have one or two more isotopologues than are listed.
+#[test]
+fn the_next_number_of_isotopologues_is_refused(rt: HostRuntime) -> Result<(), Fail> {
+    let mut elements = Vec::new(rt.alloc());
+    add_element(rt.alloc(), &mut elements, &[1, 1], 6)?;
+    add_element(rt.alloc(), &mut elements, &[1, 1], 162)?;
+    add_element(rt.alloc(), &mut elements, &[1, 1], 918)?;
+    match reaching_layer(rt.alloc(), &elements, 1) {
+        Ok(_) => rt.abort(),
+        Err(fault) => {
+            assert_eq!(rt; fault, CoverFault::Wide);
+            Ok(())
+        }
+    }
+}
+
+#[test]
+fn more_isotopologues_than_are_listed_are_refused(rt: HostRuntime) -> Result<(), Fail> {
+    let many = only(rt.alloc(), &[1; 16], 100)?;
+    match reaching_layer(rt.alloc(), &many, HALF) {
+        Ok(_) => rt.abort(),
+        Err(fault) => {
+            assert_eq!(rt; fault, CoverFault::Wide);
+            let text = format!(in rt.alloc(); "{fault}")?;
+            assert_eq!(rt;
+                text.as_str(),
+                "the elements have more than 1,048,576 isotopologues together"
+            );
+            Ok(())
+        }
+    }
+}
