@@ -1,0 +1,5 @@
+mod OptionRules
+mod ClapWalk
+mod WordUses
+mod AskedRequests
+mod RequestRanges

@@ -1,0 +1,134 @@
+//! The table of options.
+ghost use Rattle.std.specs.Prelude.{◌≡◌, ◌≤◌};
+ghost use Rattle.command_words.specs.Options.{name, word, kind, number};
+ghost use Rattle.command_words.specs.declared.options.OptionName.{OptionName};
+
+use mass_scaling::{MAX_DA, MAX_MZ};
+
+/// The least m/z, or mass for the neutral adduct, in 10^-12 Da.
+pub const MIN_MZ: u64 = 1;
+
+/// The least coverage, in 10^-18.
+pub const MIN_COVERAGE: u64 = 1;
+
+/// The greatest coverage, 0.999999, in 10^-18.
+pub const MAX_COVERAGE: u64 = 999_999_000_000_000_000;
+
+/// How many options there are; they are numbered from 1.
+pub const OPTION_COUNT: u32 = 6;
+
+/// The options, in the order of their table.
+#[derive(Clone, Copy, Debug, PartialEq, Eq)]
+pub(crate) enum OptionName {
+    Table,
+    Mass,
+    Da,
+    Alphabet,
+    Formula,
+    Coverage,
+}
+
+/// What the value of an option is, with the least and the greatest number.
+#[derive(Clone, Copy, Debug, PartialEq, Eq)]
+pub(crate) enum ValueKind {
+    /// A file name or a text of any form.
+    Text,
+    /// A decimal number of Da, in 10^-12 Da.
+    Daltons { low: u64, high: u64 },
+    /// A decimal number, in 10^-18.
+    Fraction { low: u64, high: u64 },
+}
+
+/// A row of the table of options.
+#[derive(Clone, Copy, Debug, PartialEq, Eq)]
+struct OptionRow {
+    /// The option as it is written.
+    word: &'static str,
+    /// The same without its hyphens.
+    name: &'static str,
+    kind: ValueKind,
+}
+
+impl OptionRow {
+    fn of(word: &'static str, name: &'static str, kind: ValueKind) -> OptionRow
+        ensures { (result.word ≡ word.entry) × (result.name ≡ name.entry) × (result.kind ≡ kind) }
+    {
+        OptionRow { word, name, kind }
+    }
+}
+
+const OPTIONS: [OptionName; OPTION_COUNT as usize] = [
+    OptionName::Table,
+    OptionName::Mass,
+    OptionName::Da,
+    OptionName::Alphabet,
+    OptionName::Formula,
+    OptionName::Coverage,
+];
+
+impl OptionName {
+    /// The table of options.
+    fn row(self) -> OptionRow
+        ensures { (result.word.now ≡ word self) × (result.name.now ≡ name self) × (result.kind ≡ kind self) }
+    {
+        match self {
+            OptionName::Table => OptionRow::of("--table", "table", ValueKind::Text),
+            OptionName::Mass => OptionRow::of(
+                "--mass",
+                "mass",
+                ValueKind::Daltons {
+                    low: MIN_MZ,
+                    high: MAX_MZ,
+                },
+            ),
+            OptionName::Da => OptionRow::of(
+                "--da",
+                "da",
+                ValueKind::Daltons {
+                    low: 0,
+                    high: MAX_DA,
+                },
+            ),
+            OptionName::Alphabet => OptionRow::of("--alphabet", "alphabet", ValueKind::Text),
+            OptionName::Formula => OptionRow::of("--formula", "formula", ValueKind::Text),
+            OptionName::Coverage => OptionRow::of(
+                "--coverage",
+                "coverage",
+                ValueKind::Fraction {
+                    low: MIN_COVERAGE,
+                    high: MAX_COVERAGE,
+                },
+            ),
+        }
+    }
+
+    /// The option without its hyphens.
+    pub(crate) fn name(self) -> &'static str
+        ensures { result.now ≡ name self }
+    {
+        self.row().name
+    }
+
+    /// What its value is.
+    pub(crate) fn kind(self) -> ValueKind
+        ensures { result ≡ kind self }
+    {
+        self.row().kind
+    }
+
+    /// Its place in the table, from 1.
+    pub(crate) fn number(self) -> u32
+        ensures { result ≡ number self }
+    {
+        self as u32 + 1
+    }
+}
+
+/// The option of this number as it is written, as `--mass` for 2.
+pub fn option_name(option: u32) -> &'static str
+    requires from_1 { 1 ≤ option }
+    requires in_table { option ≤ OPTION_COUNT }
+    ensures { (of : OptionName) → number of ≡ option → result.now ≡ word of }
+{
+    OPTIONS[option as usize - 1].row().word
+}
