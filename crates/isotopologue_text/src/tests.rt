@@ -147,7 +147,7 @@ fn elements_have_the_isotopes_that_occur(rt: HostRuntime) -> Result<(), Fail> {
     let carbon: &[u64] = &[989_300_000_000, 10_700_000_000];
     assert_eq!(rt; elements[0].weights(), carbon);
     assert_eq!(rt; elements[0].atoms(), 1);
-    let oxygen: &[u64] = &[997_570_000, 380_000, 2_050_000];
+    let oxygen: &[u64] = &[997_570_000_000, 380_000_000, 2_050_000_000];
     assert_eq!(rt; elements[1].weights(), oxygen);
     assert_eq!(rt; elements[1].atoms(), 2);
     Ok(())
