@@ -12,12 +12,15 @@ use Rattle.std.proofs.lemmas.List.Folds.{length-prefix_len}
 use Rattle.std.proofs.Math.Seq.{drop-append_seam}
 use Rattle.element_table.specs.SymbolText.{is_small}
 use Rattle.reader_answers.specs.BadPlaces.{Begins, IsBadPlace}
-use Rattle.written_items.specs.WrittenItems.{IsNumber, are_digits, begins, is_item_start, written_text}
+use Rattle.fixed_decimal.specs.DecimalTexts.{IsDigits}
+use Rattle.fixed_decimal.proofs.LeadingDigits.{leading_digits-AllDigits}
+use Rattle.written_items.specs.WrittenItems.{are_digits, begins, is_item_start, written_text}
 use Rattle.written_items.proofs.LeadingItemLaws.{begins-written}
 use Rattle.written_items.specs.WrittenRows.{WrittenPart, row_text, IsPart, IsRow}
-use Rattle.written_items.specs.LeadingItems.{leading_digits}
+use Rattle.fixed_decimal.specs.Decimal.{leading_digits}
 use Rattle.written_items.proofs.BadPlaceSteps.{first_byte, bad-here, bad-behind}
 use Rattle.written_items.proofs.ByteKinds.{digit-small, start-digit, begins-first, take_while-run}
+use Rattle.written_items.proofs.ByteKinds.{digits-numeral, numeral-digits}
 use Rattle.written_items.proofs.ByteKinds.{take_while-passes, take_while-stops}
 use Rattle.written_items.proofs.LeadingSymbols.{append-cancel}
 use Rattle.written_items.proofs.RowLaws.{StartsItem, TailRow, ReadsTails, no-parts}
@@ -33,23 +36,24 @@ behind_digits text = drop (length (leading_digits text)) text
 
 -- ---- digits at the beginning of a text
 
-number-no_small : (low more : List ℕ) → IsNumber low → begins is_small (low ++ more) ≡ false
-number-no_small [] more n = let some = n.some_digit in absurd (omega (arith, some))
-number-no_small (d ∷ ds) more n = digit-small d (and_parts (is_ascii_digit d) (are_digits ds) n.digits).0
+number-no_small : (low more : List ℕ) → IsDigits low → begins is_small (low ++ more) ≡ false
+number-no_small [] more n = let some = n.0 in absurd (omega (arith, some))
+number-no_small (d ∷ ds) more n =
+    digit-small d (and_parts (is_ascii_digit d) (are_digits ds) (numeral-digits (d ∷ ds) n.1)).0
 
-begins-number : (low more : List ℕ) → IsNumber low → begins is_ascii_digit (low ++ more) ≡ true
-begins-number [] more n = let some = n.some_digit in absurd (omega (arith, some))
-begins-number (d ∷ ds) more n = (and_parts (is_ascii_digit d) (are_digits ds) n.digits).0
+begins-number : (low more : List ℕ) → IsDigits low → begins is_ascii_digit (low ++ more) ≡ true
+begins-number [] more n = let some = n.0 in absurd (omega (arith, some))
+begins-number (d ∷ ds) more n = (and_parts (is_ascii_digit d) (are_digits ds) (numeral-digits (d ∷ ds) n.1)).0
 
-pub digits-before : (low more : List ℕ) → IsNumber low → begins is_ascii_digit more ≡ false
+pub digits-before : (low more : List ℕ) → IsDigits low → begins is_ascii_digit more ≡ false
     → leading_digits (low ++ more) ≡ low
-digits-before low more n stops = take_while-run is_ascii_digit low more n.digits stops
+digits-before low more n stops = take_while-run is_ascii_digit low more (numeral-digits low n.1) stops
 
 no_digits : (text : List ℕ) → begins is_ascii_digit text ≡ false → leading_digits text ≡ []
 no_digits text stops = take_while-run is_ascii_digit [] text refl stops
 
-pub leading-number : (text : List ℕ) → 0 < length (leading_digits text) → IsNumber (leading_digits text)
-leading-number text some = record { some_digit = some; digits = take_while-passes is_ascii_digit text }
+pub leading-number : (text : List ℕ) → 0 < length (leading_digits text) → IsDigits (leading_digits text)
+leading-number text some = (some, leading_digits-AllDigits text)
 
 digits-stop : (text : List ℕ) → begins is_ascii_digit (behind_digits text) ≡ false
 digits-stop text =
@@ -74,15 +78,15 @@ no_digit_first (b ∷ rest) h = start-digit b (not-false (is_item_start b) h)
 
 -- ---- what is written is read
 
-range-read : (low high rest : List ℕ) → IsNumber low → IsNumber high → begins is_ascii_digit rest ≡ false
+range-read : (low high rest : List ℕ) → IsDigits low → IsDigits high → begins is_ascii_digit rest ≡ false
     → range_tail ((low ++ hyphen ∷ high) ++ rest) ≡ Ok (low ++ hyphen ∷ high)
 range-read low high rest l h stops =
     let text : List ℕ = low ++ (hyphen ∷ (high ++ rest)) in
     let digits : leading_digits text ≡ low = digits-before low (hyphen ∷ (high ++ rest)) l refl in
     let behind : behind_digits text ≡ hyphen ∷ (high ++ rest) =
     ap (λ d. drop (length d) text) digits ∙ drop-append_seam low (hyphen ∷ (high ++ rest)) in
-    let some = l.some_digit in
-    let more = h.some_digit in
+    let some = l.0 in
+    let more = h.0 in
     ap range_tail (append_assoc low (hyphen ∷ high) rest)
     ∙ ap (λ b. cond b (Ok []) (range_behind (leading_digits text) (behind_digits text)))
     (ap (λ d. length d == 0) digits ∙ some_length low some)
@@ -104,8 +108,8 @@ none-read rest stops =
 record HasRange (text tail : List ℕ) : Type 0 where
   low : List ℕ
   high : List ℕ
-  low_number : IsNumber low
-  high_number : IsNumber high
+  low_number : IsDigits low
+  high_number : IsDigits high
   tail_is : tail ≡ low ++ hyphen ∷ high
   rest : List ℕ
   spelled : text ≡ tail ++ rest
@@ -255,7 +259,7 @@ tail-no_small (b ∷ more) is = ap (begins is_small) is.spelled ∙ number-no_sm
 -- what is behind the digits of a range's upper limit is a row
 record BehindHyphen (text : List ℕ) : Type 0 where
   high : List ℕ
-  high_number : IsNumber high
+  high_number : IsDigits high
   rest : List ℕ
   row : IsRow IsRangeTail rest
   spelled : text ≡ high ++ rest
@@ -268,9 +272,9 @@ record BehindLow (text : List ℕ) : Type 0 where
 one_digit : List ℕ
 one_digit = 48 ∷ []
 
-is_one_digit : IsNumber one_digit
+is_one_digit : IsDigits one_digit
 unfolding one_digit
-is_one_digit = record { some_digit = omega arith; digits = refl }
+is_one_digit = (omega arith, digits-numeral one_digit refl)
 
 begun_behind_hyphen : Begins BehindHyphen []
 begun_behind_hyphen =
@@ -282,7 +286,7 @@ begun_behind_low =
     let begun = begun_behind_hyphen in
     (hyphen ∷ begun.0, record { rest = begun.0; behind = begun.1; spelled = refl })
 
-range_row : (low other : List ℕ) → IsNumber low → BehindLow other → TailRow IsRangeTail (low ++ other)
+range_row : (low other : List ℕ) → IsDigits low → BehindLow other → TailRow IsRangeTail (low ++ other)
 range_row low other n is =
     let behind = is.behind in
     let tail : List ℕ = low ++ hyphen ∷ behind.high in
@@ -320,7 +324,7 @@ no_row text row digit =
     false≢true (sym (rows-no_digit row.row (recursion_from_All (IsPart IsRangeTail) row.row row.is.parts))
     ∙ ap (begins is_ascii_digit) (sym row.is.spelled) ∙ digit)
 
-row_behind_low : (low other : List ℕ) → IsNumber low → begins is_ascii_digit other ≡ false
+row_behind_low : (low other : List ℕ) → IsDigits low → begins is_ascii_digit other ≡ false
     → TailRow IsRangeTail (low ++ other)
     → BehindLow other
 row_behind_low low other n stops is = by is.tail is.is is.spelled

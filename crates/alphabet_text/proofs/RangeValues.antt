@@ -7,8 +7,9 @@ use Rattle.std.proofs.lemmas.Bool.{eqb-false}
 use Rattle.std.proofs.Math.Seq.{drop-append-add}
 use Rattle.decompose.specs.declared.limits.Limit.{Limit}
 use Rattle.decompose.specs.declared.limits.TheConstants.{MAX_COUNT}
-use Rattle.written_items.specs.WrittenItems.{IsNumber, begins}
-use Rattle.written_items.specs.LeadingItems.{leading_digits}
+use Rattle.written_items.specs.WrittenItems.{begins}
+use Rattle.fixed_decimal.specs.Decimal.{leading_digits}
+use Rattle.fixed_decimal.specs.DecimalTexts.{IsDigits}
 use Rattle.alphabet_text.specs.declared.written.WrittenRange.{WrittenRange}
 use Rattle.alphabet_text.specs.declared.fault.AlphabetFault.{AlphabetFault}
 use Rattle.alphabet_text.specs.AlphabetTexts.{hyphen, limit_of_tail, low_digits, high_digits}
@@ -17,9 +18,9 @@ use Rattle.alphabet_text.specs.WrittenEntries.{capped, high_place, range_at}
 use Rattle.alphabet_text.proofs.RangeTails.{is_hyphen, behind_digits, high_of, digits-before, leading-number}
 use Rattle.alphabet_text.proofs.RangeTails.{tail-of-range}
 
-limit-written : (low high : List ℕ) → IsNumber low
+limit-written : (low high : List ℕ) → IsDigits low
     → limit_of_tail (low ++ hyphen ∷ high) ≡ record { low = digits_value 10 low; high = digits_value 10 high }
-limit-written [] high n = let some = n.some_digit in absurd (omega (arith, some))
+limit-written [] high n = let some = n.0 in absurd (omega (arith, some))
 limit-written (d ∷ ds) high n =
     let low : List ℕ = d ∷ ds in
     let digits : low_digits (low ++ hyphen ∷ high) ≡ low = digits-before low (hyphen ∷ high) n refl in

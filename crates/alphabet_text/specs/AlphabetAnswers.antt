@@ -2,7 +2,7 @@
 -- with it.
 use Rattle.std.specs.Prelude.{ℕ, ◌+◌, ◌==◌, List, [], ◌∷◌, ◌++◌, length, drop, if◌then◌else◌, Result, Ok, Err}
 use Rattle.element_table.specs.Elements.{TableEntries}
-use Rattle.written_items.specs.LeadingItems.{leading_digits}
+use Rattle.fixed_decimal.specs.Decimal.{leading_digits}
 use Rattle.written_items.specs.WrittenItems.{begins}
 use Rattle.written_items.specs.WrittenRows.{WrittenPart}
 use Rattle.written_items.specs.RowReading.{TailReader, row_of}

@@ -8,7 +8,7 @@ use Rattle.std.specs.Char.{is_ascii_digit}
 use Rattle.std.specs.Str.Parse.{digits_value}
 use Rattle.decompose.specs.declared.limits.Limit.{Limit}
 use Rattle.decompose.specs.declared.limits.TheConstants.{MAX_COUNT}
-use Rattle.written_items.specs.WrittenItems.{IsNumber}
+use Rattle.fixed_decimal.specs.DecimalTexts.{IsDigits}
 use Rattle.written_items.specs.WrittenRows.{WrittenPart, IsRowOf}
 
 -- the byte `-`
@@ -19,8 +19,8 @@ hyphen = 45
 pub record IsRange (text : List ℕ) : Type 0 where
   pub low : List ℕ
   pub high : List ℕ
-  pub low_number : IsNumber low
-  pub high_number : IsNumber high
+  pub low_number : IsDigits low
+  pub high_number : IsDigits high
   pub spelled : text ≡ low ++ hyphen ∷ high
 
 -- what may stand behind an item: nothing, or a range

@@ -5,6 +5,11 @@ pub mod AlphabetReadings
 pub mod AlphabetAnswers
 pub mod WrittenEntries
 pub use Rattle.reader_answers.specs.Answers
+pub use Rattle.reader_answers.specs.BadPlaces
+pub use Rattle.fixed_decimal.specs.DecimalTexts
+pub use Rattle.written_items.specs.Items
+pub use Rattle.written_items.specs.WrittenItems
+pub use Rattle.written_items.specs.WrittenRows
 pub use Rattle.decompose.specs.CountLists
 pub use Rattle.formula_text.specs.Masses
 pub use Rattle.element_table.specs.Elements

@@ -65,9 +65,9 @@ entries_at at (Ok row) = Ok (entry_values at row)
 entries_at at (Err place) = Err (fault.BadText (at + place))
 
 -- an answer whose value is a vector, seen as the list of its elements
-abbrev pub listed : {X Z : Type 0} → Result (Vec X Z) AlphabetFault → Result (List X) AlphabetFault
-listed (Ok v) = Ok v.items
-listed (Err fault) = Err fault
+abbrev pub answer_items : {X Z : Type 0} → Result (Vec X Z) AlphabetFault → Result (List X) AlphabetFault
+answer_items (Ok v) = Ok v.items
+answer_items (Err fault) = Err fault
 
 -- the first one there is
 abbrev pub or_next : Option ℕ → Option ℕ → Option ℕ

@@ -6,7 +6,7 @@ ghost use Rattle.reader_answers.specs.Answers.{Gives};
 ghost use Rattle.alphabet_text.specs.AlphabetFaults.{is_memory};
 ghost use Rattle.decompose.specs.declared.limits.TheConstants.{MAX_COUNT};
 ghost use Rattle.alphabet_text.specs.Alphabets.{AreEntries, IsMassOfIsotope};
-ghost use Rattle.alphabet_text.specs.WrittenEntries.{entry_behind, gathered, has_item, listed};
+ghost use Rattle.alphabet_text.specs.WrittenEntries.{entry_behind, gathered, has_item, answer_items};
 ghost use Rattle.alphabet_text.specs.WrittenEntries.{table_entry, told_isotope};
 
 use crate::fault::AlphabetFault;
@@ -37,7 +37,7 @@ pub(crate) fn gathered(
     written: &[WrittenEntry],
 ) -> Result<Vec<AlphabetEntry>, AlphabetFault>
     requires { All (λ w. w.range.limit.high ≤ MAX_COUNT) written.now }
-    ensures entries { Gives is_memory (listed result) (gathered table.now [] written.now) }
+    ensures entries { Gives is_memory (answer_items result) (gathered table.now [] written.now) }
     ensures sound { IfOk result (λ v. AreEntries v.items) }
     ensures table { 0 < length written.now → IsTable table.now }
 {

@@ -8,13 +8,13 @@ ghost use Rattle.alphabet_text.specs.AlphabetFaults.{is_memory};
 ghost use Rattle.alphabet_text.specs.AlphabetTexts.{hyphen};
 ghost use Rattle.alphabet_text.specs.AlphabetAnswers.{range_tail};
 ghost use Rattle.alphabet_text.specs.WrittenEntries.{entries_at, entry_at, first_high_place, high_place};
-ghost use Rattle.alphabet_text.specs.WrittenEntries.{listed, range_at};
+ghost use Rattle.alphabet_text.specs.WrittenEntries.{answer_items, range_at};
 
 use crate::fault::AlphabetFault;
 use decompose::{Limit, MAX_COUNT};
-use fixed_decimal::capped_number;
+use fixed_decimal::{capped_number, leading_digits};
 use std::alloc::Global;
-use written_items::{LeadingItem, leading_digits, leading_item};
+use written_items::{LeadingItem, leading_item};
 
 /// What stands behind an item.
 #[derive(Clone, Copy, Debug)]
@@ -40,7 +40,7 @@ pub(crate) struct WrittenEntry {
 
 /// The entries of a text, in the order of the text, or the place at which no entry can go on.
 pub(crate) fn read_entries(alloc: Global, text: &[u8]) -> Result<Vec<WrittenEntry>, AlphabetFault>
-    ensures { Gives is_memory (listed result) (entries_at 0 (row_of range_tail text.now)) }
+    ensures { Gives is_memory (answer_items result) (entries_at 0 (row_of range_tail text.now)) }
 {
     let mut entries = Vec::new(alloc);
     let mut at = 0;

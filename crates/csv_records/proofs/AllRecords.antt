@@ -1,6 +1,8 @@
 -- That a run of records from the start of a text to its end is the whole list of its records.
-use Rattle.std.proofs.Common.{◌≡◌, ℕ, ◌+◌, ◌<◌, ◌≤◌, zero, suc, Bool, true, false, cond, List, [], ◌∷◌, ◌++◌, length, Some, None, refl, sym, ap, ◌∙◌, subst, arith, ◌==◌, ◌&&◌}
-use Rattle.csv.specs.Machine.{Read, after_end, ends_at_end, ends_with, field_after, fields_after, in_field, is_byte, is_end, line_feed, next_record, start_field, start_record, step}
+use Rattle.std.proofs.Common.{◌≡◌, ℕ, ◌+◌, ◌<◌, ◌≤◌, zero, suc, Bool, true, false, cond, List, [], ◌∷◌, ◌++◌, length}
+use Rattle.std.proofs.Common.{Some, None, refl, sym, ap, ◌∙◌, subst, arith, ◌==◌, ◌&&◌}
+use Rattle.csv.specs.Machine.{Read, after_end, ends_at_end, ends_with, field_after, fields_after, in_field, is_byte}
+use Rattle.csv.specs.Machine.{is_end, line_feed, next_record, start_field, start_record, step}
 use Rattle.csv.specs.Reading.{Reached, records, records_from}
 use Rattle.csv.specs.declared.parser.Config.{Config}
 use Rattle.csv.specs.declared.parser.Action.{Action}
@@ -12,13 +14,15 @@ use Rattle.csv.specs.declared.parser.State.TheVariants as st
 
 -- a run of records, behind which there is none, is what a text has
 pub records-reached : (cfg : Config) (n : ℕ) (s s2 : State) (xs ys : List ℕ) (rows : List (List (List ℕ)))
-    → Reached cfg s xs rows s2 ys → next_record cfg s2 [] [] ys ≡ None → length rows < n → records_from cfg n s xs ≡ rows
+    → Reached cfg s xs rows s2 ys → next_record cfg s2 [] [] ys ≡ None → length rows < n
+    → records_from cfg n s xs ≡ rows
 unfolding Reached records_from
 records-reached cfg zero s s2 xs ys rows run done more = absurd (omega arith)
 records-reached cfg (suc n) s s2 xs ys [] run done more = rw (run.0, run.1, done) refl
 records-reached cfg (suc n) s s2 xs ys (row ∷ rows) run done more =
     rw run.1 (ap (λ (front : List (List ℕ)). front ∷ records_from cfg n run.0.1 run.0.2) (sym run.2)
-    ∙ ap (λ (rest : List (List (List ℕ))). row ∷ rest) (records-reached cfg n run.0.1 s2 run.0.2 ys rows run.3 done (omega arith)))
+    ∙ ap (λ (rest : List (List (List ℕ))). row ∷ rest)
+    (records-reached cfg n run.0.1 s2 run.0.2 ys rows run.3 done (omega arith)))
 
 -- the machine stands between records
 abbrev Between : State → Type 0
@@ -50,7 +54,8 @@ in_field-between cfg c =
     (λ _. after_end-between cfg.terminator c) (idle st.InField act.Copy refl))
 
 start_field-between : (cfg : Config) (c : ℕ) → EndsBetween (start_field cfg c)
-start_field-between cfg c = either (cfg.quoting && (c == cfg.quote)) _ _ (idle st.InQuoted act.Skip refl) (in_field-between cfg c)
+start_field-between cfg c =
+    either (cfg.quoting && (c == cfg.quote)) _ _ (idle st.InQuoted act.Skip refl) (in_field-between cfg c)
 
 start_record-between : (cfg : Config) (c : ℕ) → EndsBetween (start_record cfg c)
 start_record-between cfg c =
@@ -66,9 +71,12 @@ step-between cfg st.InQuoted c =
     either (cfg.quoting && is_byte cfg.escape c) _ _ (idle st.InEscape act.Skip refl) (idle st.InQuoted act.Copy refl))
 step-between cfg st.InEscape c = idle st.InQuoted act.Copy refl
 step-between cfg st.AfterQuote c =
-    either (cfg.quoting && cfg.double_quote && (c == cfg.quote)) _ _ (idle st.InQuoted act.Copy refl) (in_field-between cfg c)
-step-between cfg st.InComment c = either (c == line_feed) _ _ (idle st.StartRecord act.Skip refl) (idle st.InComment act.Skip refl)
-step-between cfg st.AfterCr c = either (c == line_feed) _ _ (idle st.StartRecord act.Skip refl) (start_record-between cfg c)
+    either (cfg.quoting && cfg.double_quote && (c == cfg.quote)) _ _ (idle st.InQuoted act.Copy refl)
+    (in_field-between cfg c)
+step-between cfg st.InComment c =
+    either (c == line_feed) _ _ (idle st.StartRecord act.Skip refl) (idle st.InComment act.Skip refl)
+step-between cfg st.AfterCr c =
+    either (c == line_feed) _ _ (idle st.StartRecord act.Skip refl) (start_record-between cfg c)
 
 -- what a read of a record leaves: the machine between records, and fewer bytes where it was there before
 abbrev Leaves : State → List ℕ → Read → Type 0
@@ -79,19 +87,23 @@ next-leaves : (cfg : Config) (s : State) (fields : List (List ℕ)) (field xs : 
 unfolding next_record
 next-leaves cfg s fields field [] p e = last (ends_at_end s) refl e
   where
-    last : (b : Bool) → ends_at_end s ≡ b → cond b (Some (fields ++ (field ∷ []), st.StartRecord, [])) None ≡ Some p → Leaves s [] p
+    last : (b : Bool) → ends_at_end s ≡ b → cond b (Some (fields ++ (field ∷ []), st.StartRecord, [])) None ≡ Some p
+        → Leaves s [] p
     last true ends same =
         let is : (fields ++ (field ∷ []), st.StartRecord, []) ≡ p = cc in
         subst (λ (q : Read). Leaves s [] q) is (refl, omega arith, (λ between. cc))
     last false ends same = cc
 next-leaves cfg s fields field (c ∷ rest) p e =
     by (is_end (step cfg s c).1) refl e
-    (next-leaves cfg (step cfg s c).0 (fields_after (step cfg s c).1 fields field) (field_after (step cfg s c).1 c field) rest p)
+    (next-leaves cfg (step cfg s c).0 (fields_after (step cfg s c).1 fields field)
+    (field_after (step cfg s c).1 c field) rest p)
   where
     by : (b : Bool) → is_end (step cfg s c).1 ≡ b
         → cond b (Some (fields_after (step cfg s c).1 fields field, (step cfg s c).0, rest))
-        (next_record cfg (step cfg s c).0 (fields_after (step cfg s c).1 fields field) (field_after (step cfg s c).1 c field) rest) ≡ Some p
-        → (next_record cfg (step cfg s c).0 (fields_after (step cfg s c).1 fields field) (field_after (step cfg s c).1 c field) rest ≡ Some p
+        (next_record cfg (step cfg s c).0 (fields_after (step cfg s c).1 fields field)
+        (field_after (step cfg s c).1 c field) rest) ≡ Some p
+        → (next_record cfg (step cfg s c).0 (fields_after (step cfg s c).1 fields field)
+        (field_after (step cfg s c).1 c field) rest ≡ Some p
         → Leaves (step cfg s c).0 rest p)
         → Leaves s (c ∷ rest) p
     by true ends same more =

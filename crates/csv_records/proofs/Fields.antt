@@ -9,7 +9,8 @@ use Rattle.csv_records.specs.FileRecords.{trimmed_field}
 abbrev pub trimmed_row : Row → List (List ℕ)
 trimmed_row row = map trimmed_field (fields_of row)
 
-pub trimmed-rows : (rows : List Row) (records : List (List (List ℕ))) → map fields_of rows ≡ records → map trimmed_row rows ≡ map (map trimmed_field) records
+pub trimmed-rows : (rows : List Row) (records : List (List (List ℕ))) → map fields_of rows ≡ records
+    → map trimmed_row rows ≡ map (map trimmed_field) records
 trimmed-rows rows records e = rw (← e) (map-of rows)
   where
     map-of : (rows : List Row) → map trimmed_row rows ≡ map (map trimmed_field) (map fields_of rows)
@@ -27,7 +28,8 @@ row_at view rows i row same within there =
 pub no_field : (fields : List (List ℕ)) (j : ℕ) → j < length (map trimmed_field fields) → None ≡ field_at fields j → ⊥
 no_field fields j within none = field-there fields j (omega (arith, length-map fields trimmed_field)) (sym none)
 
-pub field_of : (fields : List (List ℕ)) (j : ℕ) (field : List ℕ) → j < length (map trimmed_field fields) → Some field ≡ field_at fields j
+pub field_of : (fields : List (List ℕ)) (j : ℕ) (field : List ℕ) → j < length (map trimmed_field fields)
+    → Some field ≡ field_at fields j
     → trimmed_field field ≡ get_or (map trimmed_field fields) j []
 field_of fields j field within some =
     let inside : j < length fields = omega (arith, length-map fields trimmed_field) in

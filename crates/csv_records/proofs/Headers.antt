@@ -1,5 +1,6 @@
 -- That a record is a header is found by its fields, one after another.
-use Rattle.std.proofs.Common.{◌≡◌, ◌≢◌, ℕ, ◌<◌, Bool, true, false, List, [], ◌∷◌, length, get_or, map, not, Bor, refl, sym, ap, ◌∙◌, arith}
+use Rattle.std.proofs.Common.{◌≡◌, ◌≢◌, ℕ, ◌<◌, Bool, true, false, List, [], ◌∷◌, length, get_or, map, not, Bor, refl}
+use Rattle.std.proofs.Common.{sym, ap, ◌∙◌, arith}
 use Rattle.std.specs.Bool.{Decides}
 use Rattle.std.specs.Cmp.Lexicographic.{pointwise}
 use Rattle.std.specs.Str.{bytes_eq}
@@ -23,7 +24,8 @@ of_first : (names : List (List ℕ)) (records : List (List (List ℕ))) (b : Boo
 of_first names [] b some is = absurd (omega arith)
 of_first names (record_1 ∷ records) b some is = sym is
 
-pub no_record : (names : List (List ℕ)) (records : List (List (List ℕ))) → length records ≡ 0 → false ≡ has_header names records
+pub no_record : (names : List (List ℕ)) (records : List (List (List ℕ))) → length records ≡ 0
+    → false ≡ has_header names records
 no_record names [] none = refl
 no_record names (record_1 ∷ records) none = absurd (omega arith)
 
@@ -41,7 +43,8 @@ same_fields names records some size same =
 pub other_field : (names : List (List ℕ)) (records : List (List (List ℕ))) (k : ℕ) → 0 < length records
     → get_or (get_or records 0 []) k [] ≢ get_or names k [] → false ≡ has_header names records
 other_field names records k some other =
-    of_first names records false some (unless_same _ _ (λ same. other (ap (λ (fields : List (List ℕ)). get_or fields k []) same)))
+    of_first names records false some
+    (unless_same _ _ (λ same. other (ap (λ (fields : List (List ℕ)). get_or fields k []) same)))
 
 pub other_count : (names : List (List ℕ)) (records : List (List (List ℕ))) → 0 < length records
     → length (get_or records 0 []) ≢ length names → false ≡ has_header names records
@@ -49,18 +52,22 @@ other_count names records some other =
     of_first names records false some (unless_same _ _ (λ same. other (ap length same)))
 
 -- the test of a field against a name, as the code makes it
-pub same_name : (b : Bool) (field : List ℕ) (fields : List (List ℕ)) (names : List (Bor (List ℕ))) (k : ℕ) (d : Bor (List ℕ))
+pub same_name : (b : Bool) (field : List ℕ) (fields : List (List ℕ)) (names : List (Bor (List ℕ))) (k : ℕ)
+    (d : Bor (List ℕ))
     → k < length names → field ≡ get_or fields k [] → b ≡ not (bytes_eq field (get_or names k d).now) → b ≡ false
     → get_or fields k [] ≡ get_or (map (λ name. name.now) names) k []
 same_name b field fields names k d within there test is =
-    let alike : bytes_eq field (get_or names k d).now ≡ true = by (bytes_eq field (get_or names k d).now) (sym test ∙ is) in
-    sym there ∙ ((bytes_eq-Decides field (get_or names k d).now).0 alike ∙ sym (get_or-map (λ name. name.now) names k d [] within))
+    let alike : bytes_eq field (get_or names k d).now ≡ true =
+    by (bytes_eq field (get_or names k d).now) (sym test ∙ is) in
+    sym there ∙ ((bytes_eq-Decides field (get_or names k d).now).0 alike
+    ∙ sym (get_or-map (λ name. name.now) names k d [] within))
   where
     by : (x : Bool) → not x ≡ false → x ≡ true
     by true is = refl
     by false is = sym is
 
-pub other_name : (b : Bool) (field : List ℕ) (fields : List (List ℕ)) (names : List (Bor (List ℕ))) (k : ℕ) (d : Bor (List ℕ))
+pub other_name : (b : Bool) (field : List ℕ) (fields : List (List ℕ)) (names : List (Bor (List ℕ))) (k : ℕ)
+    (d : Bor (List ℕ))
     → k < length names → field ≡ get_or fields k [] → b ≡ not (bytes_eq field (get_or names k d).now) → b ≡ true
     → get_or fields k [] ≢ get_or (map (λ name. name.now) names) k []
 other_name b field fields names k d within there test is same =

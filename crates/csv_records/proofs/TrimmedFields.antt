@@ -1,5 +1,6 @@
 -- That a trimmed field is what stands between the blanks at both ends of the field.
-use Rattle.std.proofs.Common.{◌≡◌, ℕ, ◌+◌, ◌-◌, Bool, true, false, cond, List, [], ◌∷◌, ◌++◌, length, take, drop, reverse}
+use Rattle.std.proofs.Common.{◌≡◌, ℕ, ◌+◌, ◌-◌, Bool, true, false, cond, List, [], ◌∷◌, ◌++◌, length, take, drop}
+use Rattle.std.proofs.Common.{reverse}
 use Rattle.std.proofs.Common.{refl, sym, ap, ◌∙◌}
 use Rattle.std.specs.Prelude.{IsTrue, IsFalse}
 use Rattle.std.specs.List.{All, prefix_len, suffix_len}
@@ -69,7 +70,8 @@ trimmed field =
       parts = sym (take-append-drop n field) ∙ ap (λ (l : List ℕ). take n field ++ l) ends.parts
           ∙ sym (append_assoc (take n field) (trimmed_end rest) blanks);
       blank_front = front_blanks field;
-      blank_end = All-permutation IsBlank _ _ (IsPermutation-reverse (take s (reverse rest))) (front_blanks (reverse rest));
+      blank_end = All-permutation IsBlank _ _ (IsPermutation-reverse (take s (reverse rest)))
+          (front_blanks (reverse rest));
       first = λ byte others is.
           front_other field byte (others ++ blanks) (ends.parts ∙ ap (λ (l : List ℕ). l ++ blanks) is);
       last = λ byte others is.

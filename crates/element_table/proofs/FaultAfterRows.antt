@@ -1,11 +1,13 @@
 -- The fault of a row behind others, by what is gathered from them.
-use Rattle.std.proofs.Common.{◌≡◌, ℕ, ◌==◌, not, Bool, true, false, List, [], ◌∷◌, length, find, Some, None, is_some, if◌then◌else◌, codes, refl, sym, ◌∙◌, arith}
+use Rattle.std.proofs.Common.{◌≡◌, ℕ, ◌==◌, not, Bool, true, false, List, [], ◌∷◌, length, find, Some, None, is_some}
+use Rattle.std.proofs.Common.{if◌then◌else◌, codes, refl, sym, ◌∙◌, arith}
 use Rattle.std.specs.List.{list_any}
 use Rattle.std.specs.Str.{bytes_eq}
 use Rattle.std.proofs.lemmas.Bool.{eq-eqb, ne_eqb}
 use Rattle.std.proofs.lemmas.List.{length-map}
 use Rattle.element_table.specs.Elements.{ElementEntry}
-use Rattle.element_table.specs.TableRows.{Row, rows_of, first_symbols, isotope_rows, is_electron, first_valence, entry_of, elements_of, electron_of, isotope_of_row, fault_after}
+use Rattle.element_table.specs.TableRows.{Row, rows_of, first_symbols, isotope_rows, is_electron, first_valence}
+use Rattle.element_table.specs.TableRows.{entry_of, elements_of, electron_of, isotope_of_row, fault_after}
 use Rattle.element_table.specs.Gathering.{fault_in, fault_among}
 use Rattle.element_table.specs.declared.element.Isotope.{Isotope}
 use Rattle.element_table.specs.declared.fault.TableFault.TheVariants as fault
@@ -46,7 +48,13 @@ module _ (rows : List Row) (row : Row) (record_number : ℕ) where
                 (λ same. omega (arith, same)),
           ) refl
       by false has =
-          rw (found false has, rows_of-none row.symbol rows has, isotope, eq-eqb row.valence row.valence refl, length-map) refl
+          rw (
+            found false has,
+            rows_of-none row.symbol rows has,
+            isotope,
+            eq-eqb row.valence row.valence refl,
+            length-map,
+          ) refl
 
   -- the electron, whose number and valence are 0 in each row
   fault_after-electron : is_electron row.symbol ≡ true → IsRow row → AreRows rows

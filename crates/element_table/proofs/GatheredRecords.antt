@@ -1,5 +1,6 @@
 -- One more record, gathered behind the earlier ones.
-use Rattle.std.proofs.Common.{◌≡◌, ℕ, ◌+◌, ◌<◌, drop, drop-cons, get_or, length, add-one, List, [], Result, Ok, Err, MatchBool, refl, sym, ◌∙◌}
+use Rattle.std.proofs.Common.{◌≡◌, ℕ, ◌+◌, ◌<◌, drop, drop-cons, get_or, length, add-one, List, [], Result, Ok, Err}
+use Rattle.std.proofs.Common.{MatchBool, refl, sym, ◌∙◌}
 use Rattle.std.specs.Prelude.{⊤}
 use Rattle.reader_answers.specs.Answers.{Gives, unless_fault}
 use Rattle.element_table.specs.Elements.{TableEntries}

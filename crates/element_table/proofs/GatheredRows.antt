@@ -1,16 +1,22 @@
 -- What is gathered from rows, with one more row.
-use Rattle.std.proofs.Common.{◌≡◌, ℕ, Bool, true, false, List, [], ◌∷◌, ◌++◌, map, find, Option, Some, None, is_some, option_map, if◌then◌else◌, codes, refl, sym, ap, ◌∙◌, ◌==◌, subst, true≢false}
+use Rattle.std.proofs.Common.{◌≡◌, ℕ, Bool, true, false, List, [], ◌∷◌, ◌++◌, map, find, Option, Some, None, is_some}
+use Rattle.std.proofs.Common.{option_map, if◌then◌else◌, codes, refl, sym, ap, ◌∙◌, ◌==◌, subst, true≢false}
 use Rattle.std.specs.List.{list_any}
 use Rattle.std.specs.Option.{option_or}
 use Rattle.std.specs.Str.{bytes_eq}
 use Rattle.std.proofs.lemmas.Bool.{or_left, or_parts}
 use Rattle.std.proofs.lemmas.List.Folds.{find-append}
 use Rattle.element_table.specs.Elements.{ElementEntry}
-use Rattle.element_table.specs.TableRows.{Row, rows_of, first_symbols, isotope_rows, is_electron, first_valence, element_with, entry_of, elements_of, electron_of, isotope_of_row, rising_isotopes}
+use Rattle.element_table.specs.TableRows.{Row, rows_of, first_symbols, isotope_rows, is_electron, first_valence}
+use Rattle.element_table.specs.TableRows.{element_with, entry_of, elements_of, electron_of, isotope_of_row}
+use Rattle.element_table.specs.TableRows.{rising_isotopes}
 use Rattle.element_table.specs.Gathering.{GatheredEntries, with_isotope, with_isotope_of, with_row, fault_in}
 use Rattle.element_table.specs.declared.fault.TableFault.{TableFault}
-use Rattle.element_table.proofs.FirstSymbols.{same_bytes, bytes_eq-refl, push_symbol, push_symbol-cons, AreDistinct, AreDistinct-first_symbols, first_symbols-push, any-isotope_symbols, any-electron_symbol}
-use Rattle.element_table.proofs.RowsOfSymbols.{rows_of-push_same, rows_of-push_other, isotope_rows-push, isotope_rows-push_electron, rows_of-none, rows_of-some}
+use Rattle.element_table.proofs.FirstSymbols.{same_bytes, bytes_eq-refl, push_symbol, push_symbol-cons, AreDistinct}
+use Rattle.element_table.proofs.FirstSymbols.{AreDistinct-first_symbols, first_symbols-push, any-isotope_symbols}
+use Rattle.element_table.proofs.FirstSymbols.{any-electron_symbol}
+use Rattle.element_table.proofs.RowsOfSymbols.{rows_of-push_same, rows_of-push_other, isotope_rows-push}
+use Rattle.element_table.proofs.RowsOfSymbols.{isotope_rows-push_electron, rows_of-none, rows_of-some}
 use Rattle.element_table.proofs.RisingRows.{rising_isotopes-push}
 
 -- what is gathered from rows

@@ -1,5 +1,6 @@
 -- What is gathered from records one after another is what all their rows say together.
-use Rattle.std.proofs.Common.{◌≡◌, ℕ, ◌+◌, drop, Bool, true, false, List, [], ◌∷◌, ◌++◌, Option, Some, None, Result, Ok, Err, refl, sym, ap, ◌∙◌, true≢false, arith}
+use Rattle.std.proofs.Common.{◌≡◌, ℕ, ◌+◌, drop, Bool, true, false, List, [], ◌∷◌, ◌++◌, Option, Some, None, Result, Ok}
+use Rattle.std.proofs.Common.{Err, refl, sym, ap, ◌∙◌, true≢false, arith}
 use Rattle.reader_answers.specs.Answers.{◌>>=◌}
 use Rattle.element_table.specs.SymbolText.{is_symbol}
 use Rattle.reader_answers.specs.RecordRows.{rows_after}

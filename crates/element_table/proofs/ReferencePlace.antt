@@ -1,9 +1,11 @@
 -- The reference isotope is one of the isotopes; none has a greater weight, and none before it the same.
-use Rattle.std.proofs.Common.{◌≡◌, ℕ, zero, suc, ◌<◌, ◌≤◌, true, List, [], ◌∷◌, length, refl, sym, ◌∙◌, inl, inr, arith, subst, true≢false}
+use Rattle.std.proofs.Common.{◌≡◌, ℕ, zero, suc, ◌<◌, ◌≤◌, true, List, [], ◌∷◌, length, refl, sym, ◌∙◌, inl, inr, arith}
+use Rattle.std.proofs.Common.{subst, true≢false}
 use Rattle.std.specs.List.{position_or_len}
 use Rattle.std.proofs.lemmas.Bool.{le-leb, lt-ltb, leb-true, cases_lt}
 use Rattle.std.proofs.lemmas.List.{get_or_default}
-use Rattle.std.proofs.lemmas.List.Sums.{AllPass-from_list_all, list_all-from_AllPass, fails_before_first, passes_at_first}
+use Rattle.std.proofs.lemmas.List.Sums.{AllPass-from_list_all, list_all-from_AllPass, fails_before_first}
+use Rattle.std.proofs.lemmas.List.Sums.{passes_at_first}
 use Rattle.element_table.specs.Elements.{IsReference, is_greatest, isotope_at, reference_place}
 use Rattle.element_table.specs.declared.element.Isotope.{Isotope}
 

@@ -1,10 +1,12 @@
 -- Each element of a table that is read has the reference isotope of its weights.
-use Rattle.std.proofs.Common.{◌≡◌, ℕ, List, [], get_or, drop, Option, Some, None, Result, Ok, Err, IfOk, refl, sym, ap, subst, arith, All}
+use Rattle.std.proofs.Common.{◌≡◌, ℕ, List, [], get_or, drop, Option, Some, None, Result, Ok, Err, IfOk, refl, sym, ap}
+use Rattle.std.proofs.Common.{subst, arith, All}
 use Rattle.std.proofs.lemmas.List.Elements.{All-map}
 use Rattle.reader_answers.specs.Answers.{◌>>=◌, Gives, unless_fault}
 use Rattle.element_table.specs.Elements.{ElementEntry, TableEntries, IsReference, IsTable, reference_place}
 use Rattle.reader_answers.specs.RecordRows.{rows_after}
-use Rattle.element_table.specs.TableRows.{Row, elements_of, electron_of, entry_of, fault_after, first_symbols, isotope_rows, table_from, table_of_rows, weight_fault}
+use Rattle.element_table.specs.TableRows.{Row, elements_of, electron_of, entry_of, fault_after, first_symbols}
+use Rattle.element_table.specs.TableRows.{isotope_rows, table_from, table_of_rows, weight_fault}
 use Rattle.element_table.specs.TableText.{abundance_decimals, row_of, table_of_records}
 use Rattle.element_table.specs.TableFaults.{is_memory}
 use Rattle.element_table.specs.declared.fault.TableFault.{TableFault}

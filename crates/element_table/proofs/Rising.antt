@@ -1,10 +1,12 @@
 -- Isotopes by rising mass number, and the place of one more among them.
-use Rattle.std.proofs.Common.{◌≡◌, ℕ, ◌+◌, ◌<◌, ◌≤◌, zero, suc, true, false, ◌==◌, List, [], ◌∷◌, length, get_or, map, refl, sym, ap, ◌∙◌, subst, inl, inr, add-one, arith, All}
+use Rattle.std.proofs.Common.{◌≡◌, ℕ, ◌+◌, ◌<◌, ◌≤◌, zero, suc, true, false, ◌==◌, List, [], ◌∷◌, length, get_or, map}
+use Rattle.std.proofs.Common.{refl, sym, ap, ◌∙◌, subst, inl, inr, add-one, arith, All}
 use Rattle.std.specs.List.{list_any, insert, HoldsAt}
 use Rattle.std.specs.List.Sorted.{IsStrictlyIncreasing, IsPartitionPoint, IsNonDecreasingBy, IsSortedBy}
 use Rattle.std.specs.Ordering.{nat_cmp, ordering_index, is_lt}
 use Rattle.std.specs.declared.cmp.Ordering.TheVariants.{Less, Equal, Greater}
-use Rattle.std.proofs.lemmas.Bool.{lt-ltb, le-ltb, ne_eqb, eq-eqb, cases_lt, cases_eq, cases_order, cond-true, cond-false}
+use Rattle.std.proofs.lemmas.Bool.{lt-ltb, le-ltb, ne_eqb, eq-eqb, cases_lt, cases_eq, cases_order, cond-true}
+use Rattle.std.proofs.lemmas.Bool.{cond-false}
 use Rattle.std.proofs.lemmas.Bool.Decides.{nat_tests}
 use Rattle.std.proofs.lemmas.List.{get_or-map, length-map}
 use Rattle.std.proofs.lemmas.List.Edits.{length-insert, get_or-insert_below, get_or-insert_at, get_or-insert_above}
@@ -189,7 +191,13 @@ pub IsElement-insert : (e : ElementEntry) (place : ℕ) (isotope : Isotope) (ref
     → IsIsotope isotope
     → IsGap e.isotopes isotope.number place → length e.isotopes ≤ 15
     → reference ≡ reference_place (insert e.isotopes place isotope)
-    → IsElement (record { symbol = e.symbol; valence = e.valence; isotopes = insert e.isotopes place isotope; reference = reference })
+    → IsElement (record {
+      symbol = e.symbol;
+      valence = e.valence;
+      isotopes =
+          insert e.isotopes place isotope;
+      reference = reference;
+    })
 IsElement-insert e place isotope reference is one gap few first =
     let long = length-insert e.isotopes place isotope gap.within in
     record {

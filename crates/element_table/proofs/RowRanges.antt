@@ -1,5 +1,6 @@
 -- What a row that has been read says of its numbers.
-use Rattle.std.proofs.Common.{◌≡◌, ℕ, ◌*◌, ◌/◌, ◌^◌, ◌≤◌, option_map, Bool, true, false, nat_le, eqb, length, List, [], ◌∷◌, Option, Some, None, Result, Ok, Err, codes, refl, ◌∙◌, subst, arith, if◌then◌else◌}
+use Rattle.std.proofs.Common.{◌≡◌, ℕ, ◌*◌, ◌/◌, ◌^◌, ◌≤◌, option_map, Bool, true, false, nat_le, eqb, length, List, []}
+use Rattle.std.proofs.Common.{◌∷◌, Option, Some, None, Result, Ok, Err, codes, refl, ◌∙◌, subst, arith, if◌then◌else◌}
 use Rattle.std.specs.Option.{ok_or}
 use Rattle.std.proofs.Math.Nat.{div-mul-le_self, mul-le-mul_right}
 use Rattle.std.proofs.lemmas.Bool.{leb-true, ne_eqb, and_parts, and_left, and_right}
@@ -53,7 +54,8 @@ read_on f (Some n) next x is = (n, refl, is)
 ok_same : (x y : Row) → ◌≡◌ {A = Result Row TableFault} (Ok x) (Ok y) → x ≡ y
 ok_same x y is = cc
 
-pub numbers_of-within : (decimals record_number : ℕ) (ranges : Ranges) (symbol number mass abundance valence : List ℕ) (row : Row)
+pub numbers_of-within : (decimals record_number : ℕ) (ranges : Ranges) (symbol number mass abundance valence : List ℕ)
+    (row : Row)
     → numbers_of decimals record_number ranges symbol number mass abundance valence ≡ Ok row
     → IsRowWithin ranges symbol row
 unfolding numbers_of

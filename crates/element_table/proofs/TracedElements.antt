@@ -1,13 +1,16 @@
 -- A tracer changes weights alone, and an element or a table with its weights is within the limits.
-use Rattle.std.proofs.Common.{◌≡◌, ℕ, zero, suc, ◌<◌, ◌≤◌, Bool, true, false, List, [], ◌∷◌, length, get_or, map, find, None, refl, sym, ap, ◌∙◌, subst, arith, All, AllPairs}
+use Rattle.std.proofs.Common.{◌≡◌, ℕ, zero, suc, ◌<◌, ◌≤◌, Bool, true, false, List, [], ◌∷◌, length, get_or, map, find}
+use Rattle.std.proofs.Common.{None, refl, sym, ap, ◌∙◌, subst, arith, All, AllPairs}
 use Rattle.std.proofs.lemmas.Bool.{eqb-false}
 use Rattle.std.proofs.lemmas.List.{get_or-map, length-map}
 use Rattle.std.proofs.lemmas.List.Elements.{All-map, All-head, All-tail}
 use Rattle.std.proofs.lemmas.Simd.{map-map}
 use Rattle.element_table.specs.Limits.{full_abundance}
-use Rattle.element_table.specs.Elements.{ElementEntry, TableEntries, IsElement, IsIsotope, IsTable, isotope_at, reference_isotope, total_weight}
+use Rattle.element_table.specs.Elements.{ElementEntry, TableEntries, IsElement, IsIsotope, IsTable, isotope_at}
+use Rattle.element_table.specs.Elements.{reference_isotope, total_weight}
 use Rattle.element_table.specs.ReadRow.{AreTracerRows}
-use Rattle.element_table.specs.Tracers.{DifferInWeights, is_named, is_of_isotope, is_weightless_by, traced_element, traced_elements, traced_isotope, tracer_weight, unweighted, unweighted_element}
+use Rattle.element_table.specs.Tracers.{DifferInWeights, is_named, is_of_isotope, is_weightless_by, traced_element}
+use Rattle.element_table.specs.Tracers.{traced_elements, traced_isotope, tracer_weight, unweighted, unweighted_element}
 use Rattle.element_table.specs.declared.element.Isotope.{Isotope}
 use Rattle.element_table.specs.declared.tracer.TracerRow.{TracerRow}
 use Rattle.element_table.proofs.Weights.{find-none}

@@ -1,5 +1,6 @@
 -- Where no element is without weight, each has some.
-use Rattle.std.proofs.Common.{◌≡◌, ℕ, zero, suc, ◌<◌, ◌≤◌, ◌==◌, Bool, true, false, List, [], ◌∷◌, length, get_or, find, All, Some, None, refl, arith}
+use Rattle.std.proofs.Common.{◌≡◌, ℕ, zero, suc, ◌<◌, ◌≤◌, ◌==◌, Bool, true, false, List, [], ◌∷◌, length, get_or, find}
+use Rattle.std.proofs.Common.{All, Some, None, refl, arith}
 use Rattle.std.proofs.lemmas.Bool.{eqb-false}
 use Rattle.element_table.specs.Limits.{min_electron_mass, max_electron_mass}
 use Rattle.element_table.specs.Elements.{ElementEntry, IsTable, total_weight}

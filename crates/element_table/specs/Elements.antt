@@ -1,9 +1,11 @@
 -- Elements and their isotopes, and the table that has them.
-use Rattle.std.specs.Prelude.{ℕ, Bool, ◌==◌, ◌≡◌, ◌≤◌, ◌<◌, List, length, map, sum_by, find, position, nat_le, slice_index_or, unwrap_or, Option, IsTrue, All, AllPairs}
+use Rattle.std.specs.Prelude.{ℕ, Bool, ◌==◌, ◌≡◌, ◌≤◌, ◌<◌, List, length, map, sum_by, find, position, nat_le}
+use Rattle.std.specs.Prelude.{slice_index_or, unwrap_or, Option, IsTrue, All, AllPairs}
 use Rattle.std.specs.List.{list_all}
 use Rattle.std.specs.List.Sorted.{IsStrictlyIncreasing}
 use Rattle.std.specs.Str.{bytes_eq}
-use Rattle.element_table.specs.Limits.{full_abundance, max_elements, max_isotopes, max_mass_number, max_valence, min_isotope_mass, max_isotope_mass, min_electron_mass, max_electron_mass}
+use Rattle.element_table.specs.Limits.{full_abundance, max_elements, max_isotopes, max_mass_number, max_valence}
+use Rattle.element_table.specs.Limits.{min_isotope_mass, max_isotope_mass, min_electron_mass, max_electron_mass}
 use Rattle.element_table.specs.SymbolText.{is_symbol}
 use Rattle.element_table.specs.declared.element.Isotope.{Isotope}
 

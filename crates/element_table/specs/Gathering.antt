@@ -1,6 +1,7 @@
 -- For private contracts, a private model and proofs: what is gathered from the rows read so far, and what one more row
 -- changes.
-use Rattle.std.specs.Prelude.{ℕ, ◌+◌, ◌==◌, ◌≡◌, ◌≤◌, not, List, [], ◌∷◌, length, find, if◌then◌else◌, is_some, Option, Some, None, Result, IsTrue, All, AllPairs, map, codes}
+use Rattle.std.specs.Prelude.{ℕ, ◌+◌, ◌==◌, ◌≡◌, ◌≤◌, not, List, [], ◌∷◌, length, find, if◌then◌else◌, is_some, Option}
+use Rattle.std.specs.Prelude.{Some, None, Result, IsTrue, All, AllPairs, map, codes}
 use Rattle.std.specs.List.{list_any}
 use Rattle.std.specs.Option.{ForSome}
 use Rattle.std.specs.Str.{bytes_eq}

@@ -1,6 +1,8 @@
 -- The limits of a table and of its numbers, each by its name.
 use Rattle.std.specs.Prelude.{ℕ}
-use Rattle.element_table.specs.declared.limits.TheConstants.{FULL_ABUNDANCE, MAX_ELEMENTS, MAX_ISOTOPES, MAX_MASS_NUMBER, MAX_VALENCE, MIN_ISOTOPE_MASS, MAX_ISOTOPE_MASS, MIN_ELECTRON_MASS, MAX_ELECTRON_MASS}
+use Rattle.element_table.specs.declared.limits.TheConstants.{FULL_ABUNDANCE, MAX_ELEMENTS, MAX_ISOTOPES}
+use Rattle.element_table.specs.declared.limits.TheConstants.{MAX_MASS_NUMBER, MAX_VALENCE, MIN_ISOTOPE_MASS}
+use Rattle.element_table.specs.declared.limits.TheConstants.{MAX_ISOTOPE_MASS, MIN_ELECTRON_MASS, MAX_ELECTRON_MASS}
 
 -- the weight of an abundance of 1, in units of 10^-12
 abbrev pub full_abundance : ℕ

@@ -1,5 +1,6 @@
 -- What the rows of a table file say together: the elements and the electron, or the first fault.
-use Rattle.std.specs.Prelude.{ℕ, ◌==◌, ◌&&◌, not, Bool, List, [], ◌∷◌, length, map, filter, find, nat_lt, if◌then◌else◌, Option, Some, None, option_map, Result, Ok, codes}
+use Rattle.std.specs.Prelude.{ℕ, ◌==◌, ◌&&◌, not, Bool, List, [], ◌∷◌, length, map, filter, find, nat_lt, if◌then◌else◌}
+use Rattle.std.specs.Prelude.{Option, Some, None, option_map, Result, Ok, codes}
 use Rattle.std.specs.List.{list_any}
 use Rattle.std.specs.Str.{bytes_eq}
 use Rattle.reader_answers.specs.Answers.{or_fault, unless_fault, ◌>>=◌}

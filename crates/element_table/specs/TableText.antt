@@ -1,9 +1,11 @@
 -- What the bytes of a table file stand for: the table, or the first fault.
-use Rattle.std.specs.Prelude.{ℕ, ◌*◌, ◌/◌, ◌^◌, List, [], ◌∷◌, drop, if◌then◌else◌, Option, Some, None, option_map, Result, Ok, Err, codes}
+use Rattle.std.specs.Prelude.{ℕ, ◌*◌, ◌/◌, ◌^◌, List, [], ◌∷◌, drop, if◌then◌else◌, Option, Some, None, option_map}
+use Rattle.std.specs.Prelude.{Result, Ok, Err, codes}
 use Rattle.csv_records.specs.FileRecords.{file_records, has_header}
 use Rattle.fixed_decimal.specs.Decimal.{decimal_within, whole_within}
 use Rattle.reader_answers.specs.Answers.{or_fault, ◌>>=◌}
-use Rattle.element_table.specs.Limits.{full_abundance, max_mass_number, max_valence, min_isotope_mass, max_isotope_mass, min_electron_mass, max_electron_mass}
+use Rattle.element_table.specs.Limits.{full_abundance, max_mass_number, max_valence, min_isotope_mass, max_isotope_mass}
+use Rattle.element_table.specs.Limits.{min_electron_mass, max_electron_mass}
 use Rattle.element_table.specs.SymbolText.{is_symbol}
 use Rattle.element_table.specs.Elements.{TableEntries}
 use Rattle.reader_answers.specs.RecordRows.{rows_after}

@@ -1,12 +1,14 @@
 -- What the bytes of a tracer file make of a table: other weights for the elements that it names, or the first fault.
-use Rattle.std.specs.Prelude.{ℕ, Bool, ◌≡◌, ◌&&◌, ◌==◌, List, [], ◌∷◌, drop, map, find, if◌then◌else◌, Option, Some, None, option_map, option_and_then, Result, Ok, Err, codes}
+use Rattle.std.specs.Prelude.{ℕ, Bool, ◌≡◌, ◌&&◌, ◌==◌, List, [], ◌∷◌, drop, map, find, if◌then◌else◌, Option, Some}
+use Rattle.std.specs.Prelude.{None, option_map, option_and_then, Result, Ok, Err, codes}
 use Rattle.std.specs.List.{list_any}
 use Rattle.std.specs.Str.{bytes_eq}
 use Rattle.csv_records.specs.FileRecords.{file_records, has_header}
 use Rattle.fixed_decimal.specs.Decimal.{decimal_within, whole_within}
 use Rattle.reader_answers.specs.Answers.{or_fault, unless_fault, ◌>>=◌}
 use Rattle.element_table.specs.Limits.{full_abundance, max_mass_number}
-use Rattle.element_table.specs.Elements.{ElementEntry, TableEntries, element_of, isotope_of, reference_isotope, total_weight}
+use Rattle.element_table.specs.Elements.{ElementEntry, TableEntries, element_of, isotope_of, reference_isotope}
+use Rattle.element_table.specs.Elements.{total_weight}
 use Rattle.reader_answers.specs.RecordRows.{rows_after}
 use Rattle.element_table.specs.declared.element.Isotope.{Isotope}
 use Rattle.element_table.specs.declared.tracer.TracerRow.{TracerRow}

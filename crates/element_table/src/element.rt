@@ -4,7 +4,8 @@ ghost use Rattle.std.specs.Prelude.{◌≡◌, ◌≤◌, ◌<◌, ◌+◌, [], 
 ghost use Rattle.std.specs.List.{Contains};
 ghost use Rattle.std.specs.Option.{option_copied};
 ghost use Rattle.reader_answers.specs.Answers.{GivesAs, unless_fault};
-ghost use Rattle.element_table.specs.Elements.{IsElement, IsIsotope, is_greatest, isotope_of, reference_isotope, reference_place, total_weight};
+ghost use Rattle.element_table.specs.Elements.{IsElement, IsIsotope, is_greatest, isotope_of, reference_isotope};
+ghost use Rattle.element_table.specs.Elements.{reference_place, total_weight};
 ghost use Rattle.element_table.specs.TableRows.{element_with};
 ghost use Rattle.element_table.specs.Gathering.{IsIsotopeRow, isotope_fault, with_isotope};
 ghost use Rattle.element_table.specs.ReadRow.{AreTracerRows};

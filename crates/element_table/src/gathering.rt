@@ -8,7 +8,8 @@ ghost use Rattle.element_table.specs.Elements.{IsElement, IsTable};
 ghost use Rattle.element_table.specs.TableRows.{table_from, weightless};
 ghost use Rattle.reader_answers.specs.Answers.{Gives, GivesAs, unless_fault};
 ghost use Rattle.element_table.specs.TableFaults.{is_memory};
-ghost use Rattle.element_table.specs.Gathering.{IsIsotopeRow, IsTableRow, AreElements, fault_in, row_entry, with_row, fault_among, with_isotope_of};
+ghost use Rattle.element_table.specs.Gathering.{IsIsotopeRow, IsTableRow, AreElements, fault_in, row_entry, with_row};
+ghost use Rattle.element_table.specs.Gathering.{fault_among, with_isotope_of};
 
 use crate::element::{Element, Isotope};
 use crate::fault::TableFault;

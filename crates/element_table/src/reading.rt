@@ -1,6 +1,7 @@
 //! The bytes of a table file, read as a table.
 
-ghost use Rattle.std.specs.Prelude.{◌≡◌, false, ◌≢◌, ◌+◌, ◌<◌, ◌^◌, [], All, drop, length, option_map, slice_index_or, IfOk, MatchOption};
+ghost use Rattle.std.specs.Prelude.{◌≡◌, false, ◌≢◌, ◌+◌, ◌<◌, ◌^◌, [], All, drop, length, option_map, slice_index_or};
+ghost use Rattle.std.specs.Prelude.{IfOk, MatchOption};
 ghost use Rattle.csv_records.specs.FileRecords.{has_header};
 ghost use Rattle.reader_answers.specs.Answers.{Gives, GivesAs};
 ghost use Rattle.element_table.specs.Elements.{IsReference, IsTable};

@@ -1,6 +1,7 @@
 //! The records of a tracer file, and the weights that they give the elements of a table.
 
-ghost use Rattle.std.specs.Prelude.{◌≡◌, ◌≢◌, ◌≤◌, ◌+◌, ◌<◌, ◌^◌, ◌&&◌, ◌==◌, ◌∷◌, [], drop, length, map, slice_index_or, find, IfOk, MatchOption};
+ghost use Rattle.std.specs.Prelude.{◌≡◌, ◌≢◌, ◌≤◌, ◌+◌, ◌<◌, ◌^◌, ◌&&◌, ◌==◌, ◌∷◌, [], drop, length, map};
+ghost use Rattle.std.specs.Prelude.{slice_index_or, find, IfOk, MatchOption};
 ghost use Rattle.std.specs.List.{list_any};
 ghost use Rattle.std.specs.Option.{option_copied};
 ghost use Rattle.element_table.specs.Elements.{element_of};
@@ -10,7 +11,9 @@ ghost use Rattle.reader_answers.specs.RecordRows.{rows_after};
 ghost use Rattle.reader_answers.specs.Answers.{GivesAs};
 ghost use Rattle.csv_records.specs.FileRecords.{has_header};
 ghost use Rattle.element_table.specs.TracerFaults.{is_memory};
-ghost use Rattle.element_table.specs.Tracers.{is_named, is_of_isotope, isotope_spelled, is_weightless_by, repeated_after, traced_element, traced_elements, traced_isotope, tracer_header, tracer_row_of, tracer_rows, tracer_weight, weight_if};
+ghost use Rattle.element_table.specs.Tracers.{is_named, is_of_isotope, isotope_spelled, is_weightless_by};
+ghost use Rattle.element_table.specs.Tracers.{repeated_after, traced_element, traced_elements, traced_isotope};
+ghost use Rattle.element_table.specs.Tracers.{tracer_header, tracer_row_of, tracer_rows, tracer_weight, weight_if};
 
 use crate::element::{Element, Isotope};
 use crate::limits::{FULL_ABUNDANCE, MAX_MASS_NUMBER};

@@ -2,6 +2,7 @@
 use Rattle.std.proofs.Common.{◌≡◌, ℕ, Bool, true, false, cond, List, [], ◌∷◌, refl, ap, arith}
 use Rattle.std.proofs.lemmas.List.Sums.{take_while-cons}
 use Rattle.std.specs.Char.{is_ascii_digit}
+use Rattle.std.specs.Str.Parse.{AllDigits}
 use Rattle.fixed_decimal.specs.Decimal.{leading_digits}
 use Rattle.fixed_decimal.specs.DecimalTexts.{IsLeadingDigits}
 use Rattle.fixed_decimal.proofs.PartsOfTexts.{is_digit-value, value-is_digit}
@@ -15,3 +16,7 @@ leading (c ∷ cs) = rw (take_while-cons is_ascii_digit c cs) (by (is_ascii_digi
     by true is more = (more.0, (value-is_digit c is, more.1), ap (λ (t : List ℕ). c ∷ t) more.2, more.3)
     by false other more =
         (c ∷ cs, tt, refl, (λ digits. let digit : is_ascii_digit c ≡ true = is_digit-value c digits.1.0 in absurd (cc)))
+
+-- leading digits spell a number
+pub leading_digits-AllDigits : (text : List ℕ) → AllDigits 10 (leading_digits text)
+leading_digits-AllDigits text = (leading text).1

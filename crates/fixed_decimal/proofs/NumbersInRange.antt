@@ -1,5 +1,6 @@
 -- Which texts have a number up to a limit or in a range, and which number that is.
-use Rattle.std.proofs.Common.{◌≡◌, ℕ, ◌<◌, ◌≤◌, Bool, true, false, cond, nat_le, nat_lt, length, ◌==◌, ◌||◌, List, Option}
+use Rattle.std.proofs.Common.{◌≡◌, ℕ, ◌<◌, ◌≤◌, Bool, true, false, cond, nat_le, nat_lt, length, ◌==◌, ◌||◌, List}
+use Rattle.std.proofs.Common.{Option}
 use Rattle.std.proofs.Common.{Some, None, Result, Ok, Err, IfSome, refl, sym, ap, subst, ◌∙◌, arith}
 use Rattle.std.specs.Prelude.{◌↔◌, IsNone}
 use Rattle.std.specs.Option.{option_and_then}
@@ -93,7 +94,8 @@ decimal_within-reading D low high text n is =
 pub reading-decimal_within : (D low high : ℕ) (text : List ℕ) (n : ℕ) → low ≤ n → DecimalReading D high text (Ok n)
     → decimal_within D low high text ≡ Some n
 reading-decimal_within D low high text n least reading =
-    ap (λ (r : Result ℕ DecimalFault). option_and_then (at_least low) (result_ok r)) (sym (only D high text (Ok n) reading))
+    ap (λ (r : Result ℕ DecimalFault). option_and_then (at_least low) (result_ok r))
+    (sym (only D high text (Ok n) reading))
     ∙ at_least-within low n least
 
 -- what a clause on a number that may be there says

@@ -38,7 +38,8 @@ zeros_of digits none k within = zero_of _ (fails_before_first is_other digits k 
 none_of : (digits : List ℕ) → ((k : ℕ) → k < length digits → get_or digits k 0 ≡ 48) → position is_other digits ≡ None
 none_of digits zeros =
     let last : position_or_len is_other digits ≡ length digits =
-    position_or_len_is is_other digits (length digits) 0 (omega arith) (λ k within. rw (zeros k within) refl) (λ past. absurd (omega arith)) in
+    position_or_len_is is_other digits (length digits) 0 (omega arith) (λ k within. rw (zeros k within) refl)
+    (λ past. absurd (omega arith)) in
     grind (arith, nat_tests)
 
 first_of_zeros : (digits : List ℕ) (i : ℕ) → i < length digits → get_or digits i 0 ≢ 48
@@ -46,7 +47,8 @@ first_of_zeros : (digits : List ℕ) (i : ℕ) → i < length digits → get_or 
     → position is_other digits ≡ Some i
 first_of_zeros digits i within other zeros =
     let here : position_or_len is_other digits ≡ i =
-    position_or_len_is is_other digits i 0 (omega arith) (λ k before. rw (zeros k before) refl) (λ _. other_of _ other) in
+    position_or_len_is is_other digits i 0 (omega arith) (λ k before. rw (zeros k before) refl) (λ _. other_of _ other)
+    in
     grind (arith, nat_tests)
 
 -- the digits behind the D-th decimal, as bytes of the text
@@ -89,7 +91,8 @@ none_when_zeros D whole text count zeros =
     let digits = drop D (drop (digit_count text + 1) text) in
     ap (option_map _) (none_of digits (λ k within.
     behind_byte D (digit_count text) text k
-    ∙ zeros (digit_count text + 1 + (D + k)) (omega (arith, count)) (omega (arith, behind_size D (digit_count text) text))))
+    ∙ zeros (digit_count text + 1 + (D + k)) (omega (arith, count))
+    (omega (arith, behind_size D (digit_count text) text))))
 
 -- a fine place, found and unique
 fine_when_some : (D : ℕ) (whole text : List ℕ) (place : ℕ) → digit_count text ≡ length whole
@@ -109,7 +112,8 @@ fine_when_some D whole text place count some =
           not_zero_of (get_or digits found.0 0) first.1
           (behind_byte D n text found.0 ∙ ap (λ (p : ℕ). get_or text p 0) (omega (arith, here)) ∙ is);
       zeros = λ p behind before.
-          byte_behind D n text p (omega (arith, count)) ∙ zero_of _ (first.2 (p - (n + 1 + D)) (omega (arith, here, count)));
+          byte_behind D n text p (omega (arith, count))
+          ∙ zero_of _ (first.2 (p - (n + 1 + D)) (omega (arith, here, count)));
     }
 
 some_when_fine : (D : ℕ) (whole text : List ℕ) (place : ℕ) → digit_count text ≡ length whole
@@ -122,8 +126,10 @@ some_when_fine D whole text place count fine =
     let size = behind_size D n text in
     let behind : n + D < place = omega (arith, count, fine.behind) in
     let first : position is_other digits ≡ Some i =
-    first_of_zeros digits i (omega (arith, size, behind, fine.within)) (λ is. fine.not_zero (byte_behind D n text place behind ∙ is))
-    (λ k before. behind_byte D n text k ∙ fine.zeros (n + 1 + (D + k)) (omega (arith, count)) (omega (arith, before))) in
+    first_of_zeros digits i (omega (arith, size, behind, fine.within))
+    (λ is. fine.not_zero (byte_behind D n text place behind ∙ is))
+    (λ k before. behind_byte D n text k ∙ fine.zeros (n + 1 + (D + k)) (omega (arith, count)) (omega (arith, before)))
+    in
     ap (option_map _) first ∙ ap Some (omega (arith, behind))
 
 pub value_of_parts : (D : ℕ) (text whole fraction : List ℕ) → HasParts text whole fraction
@@ -141,7 +147,8 @@ allowed D limit text = by (decimal_fault text) (fine_place D text) (nat_le (deci
   where
     by : (f g : Option ℕ) (b : Bool) → decimal_fault text ≡ f → fine_place D text ≡ g
         → nat_le (decimal_value D text) limit ≡ b
-        → DecimalReading D limit text (unless_fault (option_map fault.NotDecimal f) (unless_fault (option_map fault.TooFine g)
+        → DecimalReading D limit text
+        (unless_fault (option_map fault.NotDecimal f) (unless_fault (option_map fault.TooFine g)
         (or_fault fault.TooLarge (cond b (Some (decimal_value D text)) None))))
     by (Some place) g b bad fine le = subst (FaultMeans text) bad (fault_means text)
     by None (Some place) b bad fine le =
@@ -150,8 +157,15 @@ allowed D limit text = by (decimal_fault text) (fine_place D text) (nat_le (deci
         (is.0, is.1, is.2, fine_when_some D is.0 text place parts.count fine)
     by None None true bad fine le =
         let is : IsDecimal text = subst (FaultMeans text) bad (fault_means text) in
-        let parts = parts_of_decimal is.0 is.1 text is.2 in
-        (is.0, is.1, is.2, zeros_when_none D is.0 text parts.count fine, value_of_parts D text is.0 is.1 parts, leb-true _ _ le)
+        let parts = parts_of_decimal is.0 is.1 text is.2 in (
+          is.0,
+          is.1,
+          is.2,
+          zeros_when_none D is.0 text parts.count fine,
+          value_of_parts D text is.0 is.1 parts,
+          leb-true
+              _ _ le,
+        )
     by None None false bad fine le =
         let is : IsDecimal text = subst (FaultMeans text) bad (fault_means text) in
         let parts = parts_of_decimal is.0 is.1 text is.2 in
@@ -165,7 +179,14 @@ unfolding read_decimal
 only D limit text (Ok value) (whole, fraction, is, zeros, value_is, within) =
     let parts = parts_of_decimal whole fraction text is in
     let units = value_of_parts D text whole fraction parts in
-    rw (parts.fault, none_when_zeros D whole text parts.count zeros, units, ← value_is, at_most-within limit value within) refl
+    rw (
+      parts.fault,
+      none_when_zeros D whole text parts.count zeros,
+      units,
+      ← value_is,
+      at_most-within limit value
+          within,
+    ) refl
 only D limit text (Err (fault.NotDecimal place)) bad = by (decimal_fault text) refl (fault_means text)
   where
     by : (f : Option ℕ) → decimal_fault text ≡ f → FaultMeans text (decimal_fault text)

@@ -73,9 +73,11 @@ pub parts_of : (whole fraction : List ℕ) → AllDigits 10 whole → AllDigits 
     → 0 < length fraction
     → HasParts (whole ++ 46 ∷ fraction) whole fraction
 parts_of whole fraction w f some_whole some_fraction =
-    let count : digit_count (whole ++ 46 ∷ fraction) ≡ length whole = digit_count-digits whole (46 ∷ fraction) w ∙ omega arith in
+    let count : digit_count (whole ++ 46 ∷ fraction) ≡ length whole =
+    digit_count-digits whole (46 ∷ fraction) w ∙ omega arith in
     let behind : fraction_digits (whole ++ 46 ∷ fraction) ≡ fraction =
-    rw (count, ← append_assoc whole (46 ∷ []) fraction) (drop_at (whole ++ 46 ∷ []) fraction (length whole + 1) (length_push whole 46)) in
+    rw (count, ← append_assoc whole (46 ∷ []) fraction)
+    (drop_at (whole ++ 46 ∷ []) fraction (length whole + 1) (length_push whole 46)) in
     record {
       count = count;
       before = rw count (take_at whole (46 ∷ fraction) (length whole) refl);
@@ -99,7 +101,8 @@ parts_of_whole whole digits =
 -- a decimal text has its parts, so they are the only ones
 pub parts_of_decimal : (whole fraction text : List ℕ) → IsDecimalOf whole fraction text → HasParts text whole fraction
 parts_of_decimal whole fraction text (digits, inl (is, none)) =
-    subst (λ t. HasParts t whole fraction) (sym is) (subst (λ f. HasParts whole whole f) (sym none) (parts_of_whole whole digits))
+    subst (λ t. HasParts t whole fraction) (sym is)
+    (subst (λ f. HasParts whole whole f) (sym none) (parts_of_whole whole digits))
 parts_of_decimal whole fraction text (digits, inr (is, behind)) =
     subst (λ t. HasParts t whole fraction) (sym is) (parts_of whole fraction digits.1 behind.1 digits.0 behind.0)
 
@@ -132,7 +135,14 @@ front_of (c ∷ cs) = by (is_ascii_digit c) refl (front_of cs)
   where
     by : (b : Bool) → is_ascii_digit c ≡ b → Front cs → Front (c ∷ cs)
     by true digit f =
-        record { digits = c ∷ f.digits; rest = f.rest; is = ap (λ (t : List ℕ). c ∷ t) f.is; all = (value-is_digit c digit, f.all); stops = f.stops }
+        record {
+          digits = c ∷ f.digits;
+          rest = f.rest;
+          is = ap (λ (t : List ℕ). c ∷ t) f.is;
+          all =
+              (value-is_digit c digit, f.all);
+          stops = f.stops;
+        }
     by false other f = record { digits = []; rest = c ∷ cs; is = refl; all = tt; stops = other }
 
 -- the place of bad text behind a front with which some decimal text begins, if that is the fault whatever stands behind
@@ -170,24 +180,30 @@ means text fault is meant = subst (FaultMeans text) (sym is) meant
 
 no_digit : (rest : List ℕ) → Stops rest → IsBadPlace IsDecimal rest 0
 no_digit rest stops =
-    bad_behind [] rest (48 ∷ [], (48 ∷ [], [], ((omega arith, (omega arith, tt)), inl (refl, refl)))) (fault-front rest (digit_count-stops rest stops))
+    bad_behind [] rest (48 ∷ [], (48 ∷ [], [], ((omega arith, (omega arith, tt)), inl (refl, refl))))
+    (fault-front rest (digit_count-stops rest stops))
     (λ c cs more is. fault-front (c ∷ more) (digit_count-stops (c ∷ more) (subst Stops is stops)))
 
 -- digits, and then a byte that is neither a digit nor a point
 other_fault : (digits : List ℕ) (c : ℕ) (cs : List ℕ) → IsDigits digits → is_ascii_digit c ≡ false → c ≢ 46
     → decimal_fault (digits ++ c ∷ cs) ≡ Some (length digits)
 other_fault digits c cs some other no_point =
-    let count : digit_count (digits ++ c ∷ cs) ≡ length digits = digit_count-digits digits (c ∷ cs) some.1 ∙ rw other (omega arith) in
-    let byte : get_or (digits ++ c ∷ cs) (digit_count (digits ++ c ∷ cs)) 0 ≡ c = rw count (get_or_at digits c cs 0 (length digits) refl) in
-    fault-other (digits ++ c ∷ cs) (omega (arith, count, some.0)) (omega (arith, count, length-append digits (c ∷ cs))) (λ is. no_point (sym byte ∙ is))
+    let count : digit_count (digits ++ c ∷ cs) ≡ length digits =
+    digit_count-digits digits (c ∷ cs) some.1 ∙ rw other (omega arith) in
+    let byte : get_or (digits ++ c ∷ cs) (digit_count (digits ++ c ∷ cs)) 0 ≡ c =
+    rw count (get_or_at digits c cs 0 (length digits) refl) in
+    fault-other (digits ++ c ∷ cs) (omega (arith, count, some.0)) (omega (arith, count, length-append digits (c ∷ cs)))
+    (λ is. no_point (sym byte ∙ is))
     ∙ ap Some count
 
 other_byte : (digits : List ℕ) (c : ℕ) (cs : List ℕ) → IsDigits digits → is_ascii_digit c ≡ false → c ≢ 46
     → IsBadPlace IsDecimal (digits ++ c ∷ cs) (length digits)
 other_byte digits c cs some other no_point =
-    bad_behind digits (c ∷ cs) ([], (digits, [], (some, inl (append-nil digits, refl)))) (other_fault digits c cs some other no_point)
+    bad_behind digits (c ∷ cs) ([], (digits, [], (some, inl (append-nil digits, refl))))
+    (other_fault digits c cs some other no_point)
     (λ d ds more is. let same : c ≡ d = ap (λ (t : List ℕ). get_or t 0 0) is in
-    other_fault digits d more some (subst (λ x. is_ascii_digit x ≡ false) same other) (λ point. no_point (same ∙ point)))
+    other_fault digits d more some (subst (λ x. is_ascii_digit x ≡ false) same other)
+    (λ point. no_point (same ∙ point)))
 
 -- digits, a point, and then no digit or digits with another byte behind them
 record Behind (digits fraction rest : List ℕ) : Type 0 where
@@ -198,7 +214,8 @@ record Behind (digits fraction rest : List ℕ) : Type 0 where
 
 behind_of : (digits fraction rest : List ℕ) → IsDigits digits → Behind digits fraction rest
 behind_of digits fraction rest some =
-    let text : (digits ++ 46 ∷ fraction) ++ rest ≡ digits ++ 46 ∷ (fraction ++ rest) = append_assoc digits (46 ∷ fraction) rest in
+    let text : (digits ++ 46 ∷ fraction) ++ rest ≡ digits ++ 46 ∷ (fraction ++ rest) =
+    append_assoc digits (46 ∷ fraction) rest in
     let count : digit_count ((digits ++ 46 ∷ fraction) ++ rest) ≡ length digits =
     rw text (digit_count-digits digits (46 ∷ (fraction ++ rest)) some.1 ∙ omega arith) in
     record {
@@ -216,11 +233,14 @@ behind_fault digits fraction rest some all stops short =
     let b : Behind digits fraction rest = behind_of digits fraction rest some in
     let stop : digit_count (fraction ++ rest) ≡ length fraction =
     digit_count-digits fraction rest all ∙ omega (arith, digit_count-stops rest stops) in
-    let decimals : digit_count (fraction_digits ((digits ++ 46 ∷ fraction) ++ rest)) ≡ length fraction = rw b.behind stop in
+    let decimals : digit_count (fraction_digits ((digits ++ 46 ∷ fraction) ++ rest)) ≡ length fraction =
+    rw b.behind stop in
     let size : length (fraction_digits ((digits ++ 46 ∷ fraction) ++ rest)) ≡ length fraction + length rest =
     rw b.behind (length-append fraction rest) in
-    let place : length (digits ++ 46 ∷ fraction) ≡ length digits + 1 + length fraction = omega (arith, length-append digits (46 ∷ fraction)) in
-    fault-behind ((digits ++ 46 ∷ fraction) ++ rest) (omega (arith, b.count, some.0)) (omega (arith, b.count, b.size)) (rw b.count b.byte)
+    let place : length (digits ++ 46 ∷ fraction) ≡ length digits + 1 + length fraction =
+    omega (arith, length-append digits (46 ∷ fraction)) in
+    fault-behind ((digits ++ 46 ∷ fraction) ++ rest) (omega (arith, b.count, some.0)) (omega (arith, b.count, b.size))
+    (rw b.count b.byte)
     (elim short [ inl none ↦ inl (decimals ∙ none) | inr more ↦ inr (omega (arith, decimals, size, more)) ])
     ∙ ap Some (omega (arith, b.count, decimals, place))
 
@@ -235,7 +255,10 @@ behind_point digits fraction rest some all stops short =
         fraction ++ 48 ∷ [],
         (
           some,
-          inr (append_assoc digits (46 ∷ fraction) (48 ∷ []), (omega (arith, length_push fraction 48), all_digits-append fraction (48 ∷ []) all (omega arith, tt))),
+          inr (
+            append_assoc digits (46 ∷ fraction) (48 ∷ []),
+            (omega (arith, length_push fraction 48), all_digits-append fraction (48 ∷ []) all (omega arith, tt)),
+          ),
         ),
       ),
     )
@@ -251,11 +274,13 @@ fault_means text =
     fraction_by : (digits fraction rest : List ℕ) → IsDigits digits → AllDigits 10 fraction → Stops rest
         → FaultMeans ((digits ++ 46 ∷ fraction) ++ rest) (decimal_fault ((digits ++ 46 ∷ fraction) ++ rest))
     fraction_by digits [] rest some all stops =
-        means _ _ (behind_fault digits [] rest some all stops (inl refl)) (behind_point digits [] rest some all stops (inl refl))
+        means _ _ (behind_fault digits [] rest some all stops (inl refl))
+        (behind_point digits [] rest some all stops (inl refl))
     fraction_by digits (d ∷ ds) [] some all stops =
         let none = append-nil (digits ++ 46 ∷ d ∷ ds) in
         subst (λ t. FaultMeans t (decimal_fault t)) (sym none)
-        (means _ _ (parts_of digits (d ∷ ds) some.1 all some.0 (omega arith)).fault (digits, d ∷ ds, (some, inr (refl, (omega arith, all)))))
+        (means _ _ (parts_of digits (d ∷ ds) some.1 all some.0 (omega arith)).fault
+        (digits, d ∷ ds, (some, inr (refl, (omega arith, all)))))
     fraction_by digits (d ∷ ds) (c ∷ cs) some all stops =
         means _ _ (behind_fault digits (d ∷ ds) (c ∷ cs) some all stops (inr (omega arith)))
         (behind_point digits (d ∷ ds) (c ∷ cs) some all stops (inr (omega arith)))
@@ -272,7 +297,8 @@ fault_means text =
         → FaultMeans (digits ++ c ∷ cs) (decimal_fault (digits ++ c ∷ cs))
     byte_by true digits c cs is some other =
         let point : c ≡ 46 = grind (arith, nat_tests) in
-        subst (λ x. FaultMeans (digits ++ x ∷ cs) (decimal_fault (digits ++ x ∷ cs))) (sym point) (point_by digits cs some (front_of cs))
+        subst (λ x. FaultMeans (digits ++ x ∷ cs) (decimal_fault (digits ++ x ∷ cs))) (sym point)
+        (point_by digits cs some (front_of cs))
     byte_by false digits c cs is some other =
         let no_point : c ≢ 46 = grind (arith, nat_tests) in
         means _ _ (other_fault digits c cs some other no_point) (other_byte digits c cs some other no_point)
@@ -282,5 +308,6 @@ fault_means text =
     by [] rest all stops = means rest (Some 0) (fault-front rest (digit_count-stops rest stops)) (no_digit rest stops)
     by (d ∷ ds) [] all stops =
         subst (λ t. FaultMeans t (decimal_fault t)) (sym (append-nil (d ∷ ds)))
-        (means _ _ (parts_of_whole (d ∷ ds) (omega arith, all)).fault (d ∷ ds, [], ((omega arith, all), inl (refl, refl))))
+        (means _ _ (parts_of_whole (d ∷ ds) (omega arith, all)).fault
+        (d ∷ ds, [], ((omega arith, all), inl (refl, refl))))
     by (d ∷ ds) (c ∷ cs) all stops = byte_by (c == 46) (d ∷ ds) c cs refl (omega arith, all) stops

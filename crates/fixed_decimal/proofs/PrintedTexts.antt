@@ -47,14 +47,16 @@ all_digits-last_digits (suc k) n =
 pub digits_value_after-last_digits : (k n : ℕ) → digits_value_after 10 (n / 10 ^ k) (last_digits k n) ≡ n
 digits_value_after-last_digits zero n = grind (arith, common_steps)
 digits_value_after-last_digits (suc k) n =
-    let front : n / 10 ^ suc k * 10 + digit_value (48 + n / 10 ^ k % 10) ≡ n / 10 ^ k = rw (div-pow-suc n k, digit_byte (n / 10 ^ k % 10) (omega arith)) (omega arith) in
+    let front : n / 10 ^ suc k * 10 + digit_value (48 + n / 10 ^ k % 10) ≡ n / 10 ^ k =
+    rw (div-pow-suc n k, digit_byte (n / 10 ^ k % 10) (omega arith)) (omega arith) in
     ap (λ (m : ℕ). digits_value_after 10 m (last_digits k n)) front ∙ digits_value_after-last_digits k n
 
 -- a digit moves from the number that is left to the text
 pub move_digit : (rest : ℕ) (text : List ℕ) → 10 ≤ rest → rest < 2 ^ 64
     → decimal (rest / 10) ++ reverse (text ++ (48 + rest % 10) ∷ []) ≡ decimal rest ++ reverse text
 move_digit rest text more small =
-    rw (reverse-push text (48 + rest % 10), decimal_step rest more small) (sym (append_assoc (decimal (rest / 10)) ((48 + rest % 10) ∷ []) (reverse text)))
+    rw (reverse-push text (48 + rest % 10), decimal_step rest more small)
+    (sym (append_assoc (decimal (rest / 10)) ((48 + rest % 10) ∷ []) (reverse text)))
 
 -- and the last one
 pub move_last : (rest : ℕ) (text : List ℕ) → rest < 10
@@ -79,7 +81,8 @@ pub parts_of_printed : (D n : ℕ) → 1 ≤ D → n < 2 ^ 64
     → HasParts (decimal_text D n) (decimal (n / 10 ^ D)) (last_digits D n)
 unfolding decimal_text
 parts_of_printed D n some small =
-    parts_of (decimal (n / 10 ^ D)) (last_digits D n) (decimal_is_IsNumeral (n / 10 ^ D) (whole_small D n small)).0.1 (all_digits-last_digits D n)
+    parts_of (decimal (n / 10 ^ D)) (last_digits D n) (decimal_is_IsNumeral (n / 10 ^ D) (whole_small D n small)).0.1
+    (all_digits-last_digits D n)
     (decimal_is_IsNumeral (n / 10 ^ D) (whole_small D n small)).0.0 (rw (length-last_digits D n) some)
 
 -- digits and D more behind a point spell a number with all of them
@@ -113,7 +116,14 @@ decimal_value-printed D n some small =
 pub reads_back : (D limit n : ℕ) → n < 2 ^ 64 → 1 ≤ D → n ≤ limit → read_decimal D limit (decimal_text D n) ≡ Ok n
 unfolding read_decimal
 reads_back D limit n small some within =
-    rw ((parts_of_printed D n some small).fault, fine_place-exact D (decimal_text D n) _ _ (parts_of_printed D n some small) (length-last_digits D n), decimal_value-printed D n some small, at_most-within limit n within)
+    rw (
+      (parts_of_printed D n some small).fault,
+      fine_place-exact D (decimal_text D n) _ _
+          (parts_of_printed D n some small) (length-last_digits D n),
+      decimal_value-printed D n some small,
+      at_most-within
+          limit n within,
+    )
     refl
 
 decimal_zero : (m : ℕ) → m < 2 ^ 64 → get_or (decimal m) 0 0 ≡ 48 → decimal m ≡ 48 ∷ []
@@ -138,7 +148,11 @@ printed_is_plain D n small some =
 pub ends_in : (m : ℕ) (digits : List ℕ) → AllDigits 10 digits → digits_value_after 10 m digits / 10 ^ length digits ≡ m
 ends_in m [] all = grind (arith, common_steps)
 ends_in m (c ∷ cs) all =
-    rw (div-pow-suc (digits_value_after 10 (m * 10 + digit_value c) cs) (length cs), ends_in (m * 10 + digit_value c) cs all.1)
+    rw (
+      div-pow-suc (digits_value_after 10 (m * 10 + digit_value c) cs) (length cs),
+      ends_in (m * 10 + digit_value c) cs
+          all.1,
+    )
     (omega (arith, all.0))
 
 same_digit : (m c : ℕ) (cs : List ℕ) → digit_value c < 10 → (48 + (m * 10 + digit_value c) % 10) ∷ cs ≡ c ∷ cs
@@ -149,7 +163,8 @@ pub last_digits-ends : (m : ℕ) (digits : List ℕ) → AllDigits 10 digits
     → last_digits (length digits) (digits_value_after 10 m digits) ≡ digits
 last_digits-ends m [] all = refl
 last_digits-ends m (c ∷ cs) all =
-    rw (ends_in (m * 10 + digit_value c) cs all.1, last_digits-ends (m * 10 + digit_value c) cs all.1) (same_digit m c cs all.0)
+    rw (ends_in (m * 10 + digit_value c) cs all.1, last_digits-ends (m * 10 + digit_value c) cs all.1)
+    (same_digit m c cs all.0)
 
 -- a decimal text with digits behind its point
 with_point : (whole fraction text : List ℕ) → IsDecimalOf whole fraction text → 0 < length fraction

@@ -36,7 +36,8 @@ digit_value-digit c digit = grind (arith, nat_tests)
 
 -- the digits from i on, where the one at i has been read
 pub digits_value_after-drop : (n : ℕ) (digits : List ℕ) (i : ℕ) → i < length digits
-    → digits_value_after 10 n (drop i digits) ≡ digits_value_after 10 (n * 10 + digit_value (get_or digits i 0)) (drop (i + 1) digits)
+    → digits_value_after 10 n (drop i digits)
+    ≡ digits_value_after 10 (n * 10 + digit_value (get_or digits i 0)) (drop (i + 1) digits)
 digits_value_after-drop n digits i within = at_drop_more (digits_value_after 10 n) digits i 0 within
 
 -- a digit with which the value leaves the range of the limit
@@ -44,7 +45,13 @@ pub past_limit : (limit value n : ℕ) (digits : List ℕ) (i : ℕ) → limit <
     → digits_value_after 10 value (drop i digits) ≡ n → 2 ^ 64 ≤ value * 10 + digit_value (get_or digits i 0)
     → at_most limit n ≡ None
 past_limit limit value n digits i small within rest past =
-    at_most-above limit n (omega (arith, digits_value_after-drop value digits i within, digits_value_after-ge (value * 10 + digit_value (get_or digits i 0)) (drop (i + 1) digits)))
+    at_most-above limit n
+    (omega (
+      arith,
+      digits_value_after-drop value digits i within,
+      digits_value_after-ge
+          (value * 10 + digit_value (get_or digits i 0)) (drop (i + 1) digits),
+    ))
 
 -- zeros behind a number
 pub digits_value_after-zeros : (n k : ℕ) → digits_value_after 10 n (replicate k 48) ≡ n * 10 ^ k
@@ -81,7 +88,11 @@ all_digits-take (suc n) (c ∷ cs) all = (all.0, all_digits-take n cs all.1)
 pub number_of-parts : (xs ys : List ℕ) (zeros : ℕ)
     → number_of (xs ++ (ys ++ replicate zeros 48)) ≡ digits_value_after 10 (digits_value_after 10 0 xs) ys * 10 ^ zeros
 number_of-parts xs ys zeros =
-    rw (digits_value_after-append 0 xs (ys ++ replicate zeros 48), digits_value_after-append (digits_value_after 10 0 xs) ys (replicate zeros 48)) (digits_value_after-zeros _ zeros)
+    rw (
+      digits_value_after-append 0 xs (ys ++ replicate zeros 48),
+      digits_value_after-append
+          (digits_value_after 10 0 xs) ys (replicate zeros 48),
+    ) (digits_value_after-zeros _ zeros)
 
 -- the digits in front spell no more than all of them
 pub digits_value_after-front : (n : ℕ) (xs ys : List ℕ)
@@ -113,7 +124,8 @@ pub above_decimals : (limit D kept n : ℕ) (whole digits : List ℕ) → kept �
     → at_most limit (number_of (whole ++ first_decimals D digits)) ≡ None
 above_decimals limit D kept n whole digits e is none =
     rw (kept_decimals D kept digits e, digits_value_after-append 0 whole (take kept digits ++ replicate (D - kept) 48))
-    (at_most-grows limit _ _ (digits_value_after-front (number_of whole) (take kept digits) (replicate (D - kept) 48)) (rw is at (sym none)))
+    (at_most-grows limit _ _ (digits_value_after-front (number_of whole) (take kept digits) (replicate (D - kept) 48))
+    (rw is at (sym none)))
 
 -- and the number itself after the third
 pub value_in_steps : (D kept n m : ℕ) (whole digits : List ℕ) → kept ≡ min (length digits) D → n ≡ number_of whole

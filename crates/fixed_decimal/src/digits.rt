@@ -2,7 +2,8 @@
 
 ghost use Rattle.std.specs.Prelude.{◌≡◌, ◌↔◌, ◌+◌, ◌*◌, ◌%◌, ◌^◌, ◌≤◌, length, min, IfSome, IsNone};
 ghost use Rattle.std.specs.Str.Parse.{AllDigits, digits_value_after};
-ghost use Rattle.fixed_decimal.specs.Decimal.{digit_count, at_most, leading_digits, number_of, whole_number, whole_within, zero_digit};
+ghost use Rattle.fixed_decimal.specs.Decimal.{digit_count, at_most, leading_digits, number_of, whole_number};
+ghost use Rattle.fixed_decimal.specs.Decimal.{whole_within, zero_digit};
 ghost use Rattle.fixed_decimal.specs.DecimalTexts.{IsDigits, IsLeadingDigits};
 
 /// How many digits a text begins with.
@@ -16,6 +17,7 @@ pub(crate) fn digit_count(text: &[u8]) -> usize
 /// The digits that a text begins with, as many as there are.
 pub fn leading_digits(text: &[u8]) -> &[u8]
     ensures digits { result.now ≡ leading_digits text.now }
+    ensures number { AllDigits 10 result.now }
     ensures meaning { IsLeadingDigits result.now text.now }
 {
     &text[..digit_count(text)]

@@ -71,7 +71,7 @@ impl<const D: u32> Fixed<D> {
     /// Reads a decimal text: digits, and then nothing or a point and digits. Leading zeros are
     /// accepted, and so are zeros behind the D-th decimal. The limit is in units of 10^-D. Of
     /// several faults the answer is the first in the order in which `DecimalFault` has them.
-    #[tactic(auto, unfolding(crate::specs::Decimal::read_decimal, crate::specs::Decimal::fine_place, crate::specs::Decimal::decimal_value))]
+    #[tactic(auto, unfolding(crate::specs::Decimal::read_decimal, crate::specs::Decimal::fine_place))]
     pub fn read(text: &[u8], limit: u64) -> Result<Self, DecimalFault>
         ensures value { result ≡ read_decimal D limit text.now }
 
@@ -109,9 +109,11 @@ impl<const D: u32> Fixed<D> {
         ensures text { IfOk result (λ text. text.items ≡ decimal_text D self.entry) }
 
         // It is read back as the number, and of the plain texts it alone is the number's.
-        ensures reads_back { IfOk result (λ text. (limit : ℕ) → 1 ≤ D → self.entry ≤ limit → read_decimal D limit text.items ≡ Ok self.entry) }
+        ensures reads_back { IfOk result (λ text. (limit : ℕ) →
+            1 ≤ D → self.entry ≤ limit → read_decimal D limit text.items ≡ Ok self.entry) }
         ensures plain { IfOk result (λ text. 1 ≤ D → IsPlainDecimal D self.entry text.items) }
-        ensures one_text { IfOk result (λ text. (other : List ℕ) → 1 ≤ D → IsPlainDecimal D self.entry other → other ≡ text.items) }
+        ensures one_text { IfOk result (λ text. (other : List ℕ) →
+            1 ≤ D → IsPlainDecimal D self.entry other → other ≡ text.items) }
     {
         let units = self.units();
         printing::decimal_text(alloc, units, D)

@@ -1,8 +1,10 @@
 //! The parts of a decimal text: the digits before its point and those behind it.
 
-ghost use Rattle.std.specs.Prelude.{◌≡◌, ◌+◌, ◌++◌, ◌^◌, ◌<◌, ℕ, length, drop, Some, None, IfOk, IfErr, not, ◌==◌, option_map, position};
+ghost use Rattle.std.specs.Prelude.{◌≡◌, ◌+◌, ◌++◌, ◌^◌, ◌<◌, ℕ, length, drop, Some, None, IfOk, IfErr, not, ◌==◌};
+ghost use Rattle.std.specs.Prelude.{option_map, position};
 ghost use Rattle.std.specs.Str.Parse.{AllDigits};
-ghost use Rattle.fixed_decimal.specs.Decimal.{at_most, decimal_fault, first_decimals, fraction_digits, number_of, whole_digits, zero_digit};
+ghost use Rattle.fixed_decimal.specs.Decimal.{at_most, decimal_fault, first_decimals, fraction_digits, number_of};
+ghost use Rattle.fixed_decimal.specs.Decimal.{whole_digits, zero_digit};
 
 use crate::digits::{append_digits, append_zeros, digit_count};
 

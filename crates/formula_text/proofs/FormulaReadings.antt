@@ -1,5 +1,6 @@
 -- The answer that is computed is the one that the reading of a formula text allows.
-use Rattle.std.proofs.Common.{◌≡◌, ℕ, ◌+◌, ◌^◌, ◌<◌, Bool, true, false, cond, ltb, List, [], ◌∷◌, ◌++◌, length, refl, sym, ap, subst, ◌∙◌, arith, length-append}
+use Rattle.std.proofs.Common.{◌≡◌, ℕ, ◌+◌, ◌^◌, ◌<◌, Bool, true, false, cond, ltb, List, [], ◌∷◌, ◌++◌, length, refl}
+use Rattle.std.proofs.Common.{sym, ap, subst, ◌∙◌, arith, length-append}
 use Rattle.std.specs.Prelude.{Option, Some, None, Result, Ok, Err, is_some, IsTrue}
 use Rattle.std.specs.List.{AllByRecursion}
 use Rattle.std.specs.Option.{option_map_or}
@@ -18,11 +19,14 @@ use Rattle.written_items.proofs.CountTails.{counts-read}
 use Rattle.formula_text.specs.declared.fault.PartsFault.{PartsFault}
 use Rattle.formula_text.specs.declared.fault.FormulaFault.{FormulaFault}
 use Rattle.formula_text.specs.declared.fault.PartsFault.TheVariants as limit
-use Rattle.formula_text.specs.declared.fault.FormulaFault.TheVariants.{BadText, UnknownSymbol, UnknownIsotope, TooManyAtoms, TooManyElements, Empty, Memory}
-use Rattle.formula_text.specs.Formulas.{IsItem, IsParts, IsFormula, sum_of, parts_of, within_limits, has_many_atoms, has_many_items}
+use Rattle.formula_text.specs.declared.fault.FormulaFault.TheVariants.{BadText, UnknownSymbol, UnknownIsotope}
+use Rattle.formula_text.specs.declared.fault.FormulaFault.TheVariants.{TooManyAtoms, TooManyElements, Empty, Memory}
+use Rattle.formula_text.specs.Formulas.{IsItem, IsParts, IsFormula, sum_of, parts_of, within_limits, has_many_atoms}
+use Rattle.formula_text.specs.Formulas.{has_many_items}
 use Rattle.formula_text.specs.Masses.{item_isotope, isotope_if}
 use Rattle.formula_text.specs.FormulaTexts.{Answer, counts_of, has_written, RowSums, IsFirstUnknown, FormulaReading}
-use Rattle.formula_text.specs.FormulaReader.{formula_or_fault, fault_or, first_fault, item_fault, row_fault, row_answer, read_of}
+use Rattle.formula_text.specs.FormulaReader.{formula_or_fault, fault_or, first_fault, item_fault, row_fault, row_answer}
+use Rattle.formula_text.specs.FormulaReader.{read_of}
 use Rattle.formula_text.proofs.SumFolds.{sum_of-items}
 use Rattle.formula_text.proofs.SumLimits.{same_sums, sum_of-AreSums, sum_of-IsParts, within}
 
@@ -145,7 +149,10 @@ first_unknown table at (part ∷ row) fault e =
           }
     ] refl e
 
-unknown-row_fault : (table : TableEntries) (at : ℕ) (before behind : List WrittenPart) (part : WrittenPart) (fault : FormulaFault) → AllByRecursion (Known table) before → item_fault table (at + length (row_text before)) part.item ≡ Some fault → row_fault table at (before ++ (part ∷ behind)) ≡ Some fault
+unknown-row_fault : (table : TableEntries) (at : ℕ) (before behind : List WrittenPart) (part : WrittenPart)
+    (fault : FormulaFault) → AllByRecursion (Known table) before
+    → item_fault table (at + length (row_text before)) part.item ≡ Some fault
+    → row_fault table at (before ++ (part ∷ behind)) ≡ Some fault
 unknown-row_fault table at [] behind part fault known e =
     let here : at ≡ at + 0 = omega arith in
     ap (λ f. first_fault f (row_fault table (at + length (part_text part)) behind))
@@ -212,8 +219,11 @@ known-IsItem : (table : TableEntries) (row : List WrittenPart) → AllByRecursio
 known-IsItem table [] known is = tt
 known-IsItem table (part ∷ row) known is =
     let item = part.item in
-    let named = (and_parts (names_item item) (is_some (item_isotope table (item_of item))) known.0).0 in
-    (record { symbol = is.0.item.symbol; label = label_fits item.digits item.symbol named }, known-IsItem table row known.1 is.1)
+    let named = (and_parts (names_item item) (is_some (item_isotope table (item_of item))) known.0).0 in (
+      record { symbol = is.0.item.symbol; label = label_fits item.digits item.symbol named },
+      known-IsItem table row
+          known.1 is.1,
+    )
 
 abbrev limits_if : List (Item × ℕ) → Bool → Bool → Result (List (Item × ℕ)) PartsFault
 limits_if sums atoms items = cond atoms (Err limit.TooManyAtoms) (cond items (Err limit.TooManyElements) (Ok sums))

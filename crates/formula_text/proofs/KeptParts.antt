@@ -1,21 +1,25 @@
 -- What is kept of the parts of a row is enough: the same faults, and the same counts up to the cap.
-use Rattle.std.proofs.Common.{◌≡◌, ℕ, ◌+◌, ◌-◌, ◌^◌, ◌<◌, ◌≤◌, min, Bool, true, false, cond, ◌&&◌, ltb, eqb, List, [], ◌∷◌, length, map, refl, sym, ap, subst, ◌∙◌, arith, inl, inr}
+use Rattle.std.proofs.Common.{◌≡◌, ℕ, ◌+◌, ◌-◌, ◌^◌, ◌<◌, ◌≤◌, min, Bool, true, false, cond, ◌&&◌, ltb, eqb, List, []}
+use Rattle.std.proofs.Common.{◌∷◌, length, map, refl, sym, ap, subst, ◌∙◌, arith, inl, inr}
 use Rattle.std.specs.Prelude.{Option, Some, None, is_some, IsTrue, find, option_map, unwrap_or}
 use Rattle.std.specs.Option.{option_map_or}
 use Rattle.std.specs.List.{AllByRecursion}
 use Rattle.std.specs.Str.{bytes_eq}
 use Rattle.std.specs.Str.Parse.{digits_value}
-use Rattle.std.proofs.lemmas.Bool.{false≢true, and_parts, and_right, ltb-true, lt-ltb, le-ltb, eqb-true, ne_eqb, cases_lt}
+use Rattle.std.proofs.lemmas.Bool.{false≢true, and_parts, and_right, ltb-true, lt-ltb, le-ltb, eqb-true, ne_eqb}
+use Rattle.std.proofs.lemmas.Bool.{cases_lt}
 use Rattle.std.proofs.lemmas.List.Elements.{recursion_from_All}
 use Rattle.element_table.specs.declared.element.Isotope.{Isotope}
-use Rattle.element_table.specs.Elements.{TableEntries, ElementEntry, IsTable, IsElement, IsIsotope, element_of, isotope_of, reference_isotope}
+use Rattle.element_table.specs.Elements.{TableEntries, ElementEntry, IsTable, IsElement, IsIsotope, element_of}
+use Rattle.element_table.specs.Elements.{isotope_of, reference_isotope}
 use Rattle.written_items.specs.WrittenItems.{WrittenItem, names_item, item_of}
 use Rattle.written_items.specs.WrittenRows.{WrittenPart, part_text, count_of_tail}
 use Rattle.formula_text.specs.declared.fault.FormulaFault.{FormulaFault}
 use Rattle.formula_text.specs.declared.fault.FormulaFault.TheVariants.{UnknownSymbol, UnknownIsotope}
 use Rattle.formula_text.specs.Masses.{isotope_in, isotope_if, item_isotope}
 use Rattle.formula_text.specs.FormulaTexts.{counts_of, has_written}
-use Rattle.formula_text.specs.FormulaReader.{item_fault, row_fault, first_fault, capped, part_value, row_values, value_part, value_fault_if, value_fault, values_fault}
+use Rattle.formula_text.specs.FormulaReader.{item_fault, row_fault, first_fault, capped, part_value, row_values}
+use Rattle.formula_text.specs.FormulaReader.{value_part, value_fault_if, value_fault, values_fault}
 
 -- the isotopes of an element have mass numbers up to 400
 isotope_of-number : (is : List Isotope) (n : ℕ) → AllByRecursion IsIsotope is → is_some (isotope_of is n) ≡ true

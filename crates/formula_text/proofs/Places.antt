@@ -1,5 +1,6 @@
 -- The place of an item in a list in Hill order, and the list after the item's atoms were added there.
-use Rattle.std.proofs.Common.{◌≡◌, ℕ, ◌+◌, ◌<◌, Bool, false, cond, T, List, [], ◌∷◌, length, get_or, set, refl, sym, ap, subst, ◌∙◌, arith}
+use Rattle.std.proofs.Common.{◌≡◌, ℕ, ◌+◌, ◌<◌, Bool, false, cond, T, List, [], ◌∷◌, length, get_or, set, refl, sym, ap}
+use Rattle.std.proofs.Common.{subst, ◌∙◌, arith}
 use Rattle.std.specs.Prelude.{insert, IsTrue}
 use Rattle.std.proofs.lemmas.Bool.{false≢true}
 use Rattle.std.proofs.lemmas.Cmp.{tied_itself}
@@ -14,7 +15,8 @@ use Rattle.written_items.specs.declared.item.Item.{Item}
 use Rattle.formula_text.specs.HillOrder.{hill_cmp}
 use Rattle.formula_text.specs.Formulas.{count_in, with_part}
 use Rattle.formula_text.proofs.HillOrderLaws.{hill_total, hill_same, T-IsTrue, item_eq-itself}
-use Rattle.formula_text.proofs.CountsInOrder.{share, share-other, count_in-cons, count_in-below, below-before, t_first, t_second, t_both}
+use Rattle.formula_text.proofs.CountsInOrder.{share, share-other, count_in-cons, count_in-below, below-before, t_first}
+use Rattle.formula_text.proofs.CountsInOrder.{t_second, t_both}
 
 -- how many of the items stand before this one
 abbrev pub place_of : Bool → Item → List (Item × ℕ) → ℕ

@@ -1,11 +1,11 @@
 -- The printed text of a formula is a row of its items, and is read as the formula.
-use Rattle.std.proofs.Common.{◌≡◌, ℕ, ◌^◌, ◌<◌, ◌≤◌, true, false, cond, ◌&&◌, ltb, eqb, List, [], ◌∷◌, ◌++◌, map, length, refl, sym, ap, ◌∙◌, arith, append_assoc}
+use Rattle.std.proofs.Common.{◌≡◌, ℕ, ◌^◌, ◌<◌, ◌≤◌, true, false, cond, ◌&&◌, ltb, eqb, List, [], ◌∷◌, ◌++◌, map}
+use Rattle.std.proofs.Common.{length, refl, sym, ap, ◌∙◌, arith, append_assoc}
 use Rattle.std.specs.Prelude.{Option, Some, None, Ok, IsTrue, IfSome, is_some}
 use Rattle.std.specs.List.{AllByRecursion}
 use Rattle.std.specs.Option.{option_map_or}
-use Rattle.std.specs.Char.{is_ascii_digit, digit_value}
 use Rattle.std.specs.Fmt.{decimal}
-use Rattle.std.specs.Str.Parse.{digits_value, AllDigits}
+use Rattle.std.specs.Str.Parse.{digits_value}
 use Rattle.std.proofs.lemmas.Bool.{and_from, eqb-false, lt-ltb}
 use Rattle.std.proofs.lemmas.Bool.Decides.{nat_tests}
 use Rattle.std.proofs.lemmas.Fmt.{decimal_is_IsNumeral}
@@ -13,10 +13,12 @@ use Rattle.std.proofs.lemmas.List.Elements.{All-from_recursion, recursion_from_A
 use Rattle.element_table.specs.Elements.{TableEntries}
 use Rattle.written_items.specs.declared.item.Item.{Item}
 use Rattle.written_items.specs.Items.{item_text, count_text, opening_bracket, closing_bracket}
-use Rattle.written_items.specs.WrittenItems.{WrittenItem, IsNumber, are_digits, text_with, names_item, item_of}
+use Rattle.fixed_decimal.specs.DecimalTexts.{IsDigits}
+use Rattle.written_items.specs.WrittenItems.{WrittenItem, text_with, names_item, item_of}
 use Rattle.written_items.specs.WrittenRows.{WrittenPart, row_text, IsPart, IsRowOf, IsCountTail, count_of_tail}
 use Rattle.written_items.proofs.RowLaws.{one-row}
 use Rattle.written_items.specs.RowReading.{count_tail}
+use Rattle.written_items.proofs.ByteKinds.{numeral-digits}
 use Rattle.written_items.proofs.CountTails.{counts-read}
 use Rattle.formula_text.specs.Formulas.{IsItem, IsFormula, count_in}
 use Rattle.formula_text.specs.Masses.{HasItems, item_isotope}
@@ -25,13 +27,6 @@ use Rattle.formula_text.specs.FormulaTexts.{FormulaText, counts_of, has_written}
 use Rattle.formula_text.specs.FormulaReader.{read_of}
 use Rattle.formula_text.proofs.SumLimits.{same_sum}
 use Rattle.formula_text.proofs.FormulaReadings.{formula_answer}
-
-digits-decimal : (ds : List ℕ) → AllDigits 10 ds → are_digits ds ≡ true
-digits-decimal [] h = refl
-digits-decimal (d ∷ ds) h = and_from _ _ (one d h.0) (digits-decimal ds h.1)
-  where
-    one : (d : ℕ) → digit_value d < 10 → is_ascii_digit d ≡ true
-    one d h = grind (arith, nat_tests)
 
 -- ---- an item as it is printed
 
@@ -50,13 +45,13 @@ label-text label s =
       | false ↦ ap (λ t. opening_bracket ∷ t) (sym (append_assoc (decimal label) s (closing_bracket ∷ [])))
     ]
 
-label-number : (label : ℕ) → label < 2 ^ 32 → IfSome (label_digits label) IsNumber
+label-number : (label : ℕ) → label < 2 ^ 32 → IfSome (label_digits label) IsDigits
 label-number label h =
-    elim (eqb label 0) as (λ b. IfSome (cond b None (Some (decimal label))) IsNumber) [
+    elim (eqb label 0) as (λ b. IfSome (cond b None (Some (decimal label))) IsDigits) [
       | true ↦ tt
       | false ↦
           let numeral = decimal_is_IsNumeral label (omega arith) in
-          record { some_digit = numeral.0.0; digits = digits-decimal (decimal label) numeral.0.1 }
+          (numeral.0.0, numeral.0.1)
     ]
 
 label-value : (label : ℕ) → label < 2 ^ 32 → option_map_or (digits_value 10) (label_digits label) 0 ≡ label
@@ -86,7 +81,7 @@ count-tail n h =
       | true ↦ λ e. (refl, grind (arith, nat_tests))
       | false ↦ λ e.
           let numeral = decimal_is_IsNumeral n (omega arith) in
-          (digits-decimal (decimal n) numeral.0.1, counted (decimal n) numeral.0.0 ∙ numeral.1)
+          (numeral-digits (decimal n) numeral.0.1, counted (decimal n) numeral.0.0 ∙ numeral.1)
     ] refl
   where
     counted : (ds : List ℕ) → 0 < length ds → count_of_tail ds ≡ digits_value 10 ds

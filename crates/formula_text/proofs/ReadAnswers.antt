@@ -1,5 +1,6 @@
 -- What is kept of a text, the first unknown item and the sum of the items make the answer.
-use Rattle.std.proofs.Common.{◌≡◌, ℕ, ◌+◌, ◌<◌, true, false, List, [], ◌∷◌, length, map, refl, sym, ap, subst, ◌∙◌, arith}
+use Rattle.std.proofs.Common.{◌≡◌, ℕ, ◌+◌, ◌<◌, true, false, List, [], ◌∷◌, length, map, refl, sym, ap, subst, ◌∙◌}
+use Rattle.std.proofs.Common.{arith}
 use Rattle.std.specs.Prelude.{Some, None, Result, Ok, Err, IfOk, MatchBool, ⊤, Bool}
 use Rattle.element_table.specs.Elements.{TableEntries, IsTable}
 use Rattle.reader_answers.specs.Answers.{Gives}
@@ -15,7 +16,8 @@ use Rattle.formula_text.specs.Formulas.{formula_in, parts_of}
 use Rattle.formula_text.specs.Masses.{HasItems}
 use Rattle.formula_text.specs.FormulaFaults.{is_memory, is_parts_memory, fault_of}
 use Rattle.formula_text.specs.FormulaTexts.{Answer, FormulaReading, counts_of}
-use Rattle.formula_text.specs.FormulaReader.{formula_or_fault, fault_or, row_fault, row_answer, read_of, row_values, values_or_fault, values_fault, value_part}
+use Rattle.formula_text.specs.FormulaReader.{formula_or_fault, fault_or, row_fault, row_answer, read_of, row_values}
+use Rattle.formula_text.specs.FormulaReader.{values_or_fault, values_fault, value_part}
 use Rattle.formula_text.proofs.CappedCounts.{parts_of-capped}
 use Rattle.formula_text.proofs.KeptParts.{values_fault-row, value_parts-row}
 use Rattle.formula_text.proofs.FormulaReadings.{row_fault-known, reading-meaning}
@@ -125,7 +127,10 @@ HasItems-answer table text (Ok f) h =
     HasItems-read table text f meaning.0 meaning.1
 
 -- the same of slices of what is kept
-pub read_of-items : (table : TableEntries) (text : List ℕ) (parts asked counted : List ReadPart) (items : List (Item × ℕ)) → values_or_fault 0 (row_of count_tail text) ≡ Ok parts → asked ≡ parts → counted ≡ parts → (0 < length asked → IsTable table) → None ≡ values_fault table asked → items ≡ map value_part counted → read_of table text ≡ formula_or_fault (parts_of items)
+pub read_of-items : (table : TableEntries) (text : List ℕ) (parts asked counted : List ReadPart)
+    (items : List (Item × ℕ)) → values_or_fault 0 (row_of count_tail text) ≡ Ok parts → asked ≡ parts → counted ≡ parts
+    → (0 < length asked → IsTable table) → None ≡ values_fault table asked → items ≡ map value_part counted
+    → read_of table text ≡ formula_or_fault (parts_of items)
 read_of-items table text parts asked counted items e same_asked same_counted is known counts =
     read_of-known table text parts e (λ some. is (subst (λ (p : List ReadPart). 0 < length p) (sym same_asked) some))
     (ap (values_fault table) (sym same_asked) ∙ sym known)

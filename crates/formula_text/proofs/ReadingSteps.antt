@@ -1,5 +1,6 @@
 -- One step of reading a formula text: the part that the rest begins with, and what is read behind it.
-use Rattle.std.proofs.Common.{◌≡◌, ℕ, ◌+◌, ◌<◌, ◌≤◌, List, [], ◌∷◌, ◌++◌, length, drop, refl, sym, ap, subst, ◌∙◌, arith, append_assoc, append-nil, length-append}
+use Rattle.std.proofs.Common.{◌≡◌, ℕ, ◌+◌, ◌<◌, ◌≤◌, List, [], ◌∷◌, ◌++◌, length, drop, refl, sym, ap, subst, ◌∙◌}
+use Rattle.std.proofs.Common.{arith, append_assoc, append-nil, length-append}
 use Rattle.std.specs.Prelude.{Result, Ok, Err}
 use Rattle.written_items.specs.declared.item.LeadingItem.{LeadingItem}
 use Rattle.written_items.specs.declared.item.BadItem.{BadItem}
@@ -27,7 +28,9 @@ values_before-append parts more (Err fault) = refl
 pub record NextPart (at : ℕ) (text : List ℕ) (told : LeadingItem × ℕ × ℕ) : Type 0 where
   pub some : 0 < told.2
   pub within : told.2 ≤ length text
-  pub next : values_or_fault at (row_of count_tail text) ≡ values_before (record { at = at; item = told.0; count = told.1 } ∷ []) (values_or_fault (at + told.2) (row_of count_tail (drop told.2 text)))
+  pub next : values_or_fault at (row_of count_tail text)
+      ≡ values_before (record { at = at; item = told.0; count = told.1 } ∷ [])
+      (values_or_fault (at + told.2) (row_of count_tail (drop told.2 text)))
 
 values-with : (at : ℕ) (part : WrittenPart) (r : Result (List WrittenPart) ℕ)
     → values_or_fault at (row_with part r)

@@ -1,5 +1,6 @@
 -- The sum of parts is in Hill order, has the parts' counts and atoms, and its entries have atoms.
-use Rattle.std.proofs.Common.{◌≡◌, ℕ, ◌+◌, ◌<◌, Bool, true, false, cond, ltb, T, List, [], ◌∷◌, ◌++◌, length, get_or, take, refl, sym, ap, subst, ◌∙◌, arith, append-nil}
+use Rattle.std.proofs.Common.{◌≡◌, ℕ, ◌+◌, ◌<◌, Bool, true, false, cond, ltb, T, List, [], ◌∷◌, ◌++◌, length, get_or}
+use Rattle.std.proofs.Common.{take, refl, sym, ap, subst, ◌∙◌, arith, append-nil}
 use Rattle.std.specs.Prelude.{IsTrue, Some, unwrap_or, fold, filter, All}
 use Rattle.std.specs.declared.cmp.Ordering.TheVariants.{Less, Equal, Greater}
 use Rattle.std.specs.Ordering.{is_lt}
@@ -14,7 +15,8 @@ use Rattle.formula_text.specs.Formulas.{count_in, atoms_of, has_carbon, with_par
 use Rattle.std.proofs.lemmas.Bool.{ltb-true, ltb-false, le-ltb, lt-ltb}
 use Rattle.std.proofs.lemmas.List.Elements.{All-from_recursion, recursion_from_All, filter_more}
 use Rattle.formula_text.proofs.HillOrderLaws.{IsTrue-T, hill_same, hill_ties, hill_total, item_eq-itself, item_eq-same}
-use Rattle.formula_text.proofs.CountsInOrder.{atoms_of-cons, below-before, count_in-below, count_in-cons, count_in-find, share, share-other, t_both, t_first, t_second}
+use Rattle.formula_text.proofs.CountsInOrder.{atoms_of-cons, below-before, count_in-below, count_in-cons, count_in-find}
+use Rattle.formula_text.proofs.CountsInOrder.{share, share-other, t_both, t_first, t_second}
 
 pub is_sorted-with_part : (carbon : Bool) (es : List (Item × ℕ)) (p : Item × ℕ) → T (is_sorted (hill_cmp carbon) es)
     → T (is_sorted (hill_cmp carbon) (with_part carbon es p))

@@ -1,5 +1,6 @@
 -- The sum of parts against the limits of a formula.
-use Rattle.std.proofs.Common.{◌≡◌, ℕ, ◌<◌, ◌≤◌, Bool, true, false, cond, ltb, ◌||◌, T, List, [], ◌∷◌, length, refl, sym, ap, subst, ◌∙◌, arith}
+use Rattle.std.proofs.Common.{◌≡◌, ℕ, ◌<◌, ◌≤◌, Bool, true, false, cond, ltb, ◌||◌, T, List, [], ◌∷◌, length, refl, sym}
+use Rattle.std.proofs.Common.{ap, subst, ◌∙◌, arith}
 use Rattle.std.specs.Prelude.{Some, IfSome, All, Result, Ok, Err, IfOk}
 use Rattle.std.specs.FinMap.{is_sorted}
 use Rattle.std.specs.List.{AllByRecursion, list_any}
@@ -8,7 +9,9 @@ use Rattle.written_items.specs.declared.item.Item.{Item}
 use Rattle.formula_text.specs.HillOrder.{hill_cmp}
 use Rattle.reader_answers.specs.Answers.{Gives}
 use Rattle.formula_text.specs.FormulaFaults.{is_parts_memory}
-use Rattle.formula_text.specs.Formulas.{count_in, atoms_of, has_carbon, sum_of, has_many_atoms, has_many_items, within_limits, formula_in, parts_of, formula_of, IsItem, IsParts, SumsUp, AreSums, IsSumOf}
+use Rattle.formula_text.specs.Formulas.{count_in, atoms_of, has_carbon, sum_of, has_many_atoms, has_many_items}
+use Rattle.formula_text.specs.Formulas.{within_limits, formula_in, parts_of, formula_of, IsItem, IsParts, SumsUp}
+use Rattle.formula_text.specs.Formulas.{AreSums, IsSumOf}
 use Rattle.std.proofs.lemmas.Bool.{ltb-false, le-ltb}
 use Rattle.std.proofs.lemmas.List.Elements.{All-from_recursion, recursion_from_All}
 use Rattle.formula_text.specs.declared.fault.PartsFault.{PartsFault}

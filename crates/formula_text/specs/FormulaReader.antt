@@ -1,6 +1,7 @@
 -- What a reader of formula texts computes: the one answer that FormulaReading allows. Proofs use it, and the
 -- layers above compute with it.
-use Rattle.std.specs.Prelude.{ℕ, ◌+◌, ◌-◌, ◌^◌, min, nat_lt, ◌&&◌, List, [], ◌∷◌, length, is_some, if◌then◌else◌, Option, Some, None, Result, Ok, Err, unwrap_or}
+use Rattle.std.specs.Prelude.{ℕ, ◌+◌, ◌-◌, ◌^◌, min, nat_lt, ◌&&◌, List, [], ◌∷◌, length, is_some, if◌then◌else◌}
+use Rattle.std.specs.Prelude.{Option, Some, None, Result, Ok, Err, unwrap_or}
 use Rattle.written_items.specs.declared.item.Item.{Item}
 use Rattle.written_items.specs.declared.item.LeadingItem.{LeadingItem}
 use Rattle.written_items.specs.declared.item.BadItem.{BadItem}

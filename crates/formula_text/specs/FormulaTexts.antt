@@ -1,14 +1,16 @@
 -- Formula texts: rows of items with counts, and what a reader of a text answers.
 --     formula = item count? item count? ..    one or more items
 --     count   = digit digit ..                none for 1
-use Rattle.std.specs.Prelude.{ℕ, ◌<◌, ◌≡◌, Bool, false, ◌&&◌, List, [], ◌∷◌, ◌++◌, length, map, All, IsTrue, is_some, None, Result, Ok, Err}
+use Rattle.std.specs.Prelude.{ℕ, ◌<◌, ◌≡◌, Bool, false, ◌&&◌, List, [], ◌∷◌, ◌++◌, length, map, All, IsTrue, is_some}
+use Rattle.std.specs.Prelude.{None, Result, Ok, Err}
 use Rattle.reader_answers.specs.BadPlaces.{IsBadPlace}
 use Rattle.written_items.specs.declared.item.Item.{Item}
 use Rattle.written_items.specs.WrittenItems.{WrittenItem, item_of, names_item}
 use Rattle.written_items.specs.WrittenRows.{WrittenPart, row_text, IsCountTail, IsRowOf, IsRow, count_of_tail}
 use Rattle.element_table.specs.Elements.{TableEntries, element_of}
 use Rattle.formula_text.specs.declared.fault.FormulaFault.{FormulaFault}
-use Rattle.formula_text.specs.declared.fault.FormulaFault.TheVariants.{BadText, UnknownSymbol, UnknownIsotope, TooManyAtoms, TooManyElements, Empty, Memory}
+use Rattle.formula_text.specs.declared.fault.FormulaFault.TheVariants.{BadText, UnknownSymbol, UnknownIsotope}
+use Rattle.formula_text.specs.declared.fault.FormulaFault.TheVariants.{TooManyAtoms, TooManyElements, Empty, Memory}
 use Rattle.formula_text.specs.Formulas.{IsFormula, SumsUp, AreSums, has_many_atoms, has_many_items}
 use Rattle.formula_text.specs.Masses.{item_isotope}
 

@@ -1,7 +1,8 @@
 //! A molecular formula.
 ghost use Rattle.std.specs.Prelude.{◌≡◌, ◌↔◌, ℕ, List, IfOk, IfSome, Some, Ok, IsTrue};
 ghost use Rattle.written_items.specs.declared.item.Item.{Item};
-ghost use Rattle.formula_text.specs.Formulas.{IsParts, IsFormula, SumsUp, IsSumOf, count_in, atoms_of, formula_in, formula_of};
+ghost use Rattle.formula_text.specs.Formulas.{IsParts, IsFormula, SumsUp, IsSumOf, count_in, atoms_of, formula_in};
+ghost use Rattle.formula_text.specs.Formulas.{formula_of};
 ghost use Rattle.formula_text.specs.Masses.{HasItems, mass_of};
 ghost use Rattle.formula_text.specs.PrintedText.{printed};
 ghost use Rattle.formula_text.specs.FormulaTexts.{FormulaText};

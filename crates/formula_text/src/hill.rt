@@ -25,25 +25,27 @@ pub fn has_carbon(parts: &[(Item, u32)]) -> bool
         .any(|(item, count)| is_carbon(&item.symbol) && *count > 0)
 }
 
-fn hill_rank(carbon: bool, symbol: &Symbol) -> u8
-    ensures { result ≡ hill_rank carbon symbol.now }
+/// The rank of a symbol in Hill's order; `carbon` says whether the formula has an atom of carbon.
+pub fn hill_rank(carbon: bool, symbol: &Symbol) -> u8
+    ensures rank { result ≡ hill_rank carbon symbol.now }
+    ensures symbol { IsTrue (is_symbol symbol.now) }
 {
-    if carbon && symbol.text() == b"C".as_slice() {
+    let letters = symbol.text();
+    if carbon && letters == b"C".as_slice() {
         0
-    } else if carbon && symbol.text() == b"H".as_slice() {
+    } else if carbon && letters == b"H".as_slice() {
         1
     } else {
         2
     }
 }
 
-/// Compares two items in Hill's order; `carbon` says whether the formula has an atom of carbon.
-pub fn hill_cmp(carbon: bool, a: &Item, b: &Item) -> Ordering
-    ensures order { result ≡ hill_cmp carbon a.now b.now }
-    ensures symbol { IsTrue (is_symbol a.now.symbol) }
+/// Compares an item whose symbol has this rank with another in Hill's order.
+pub fn hill_cmp(carbon: bool, rank: u8, item: &Item, other: &Item) -> Ordering
+    requires { rank ≡ hill_rank carbon item.now.symbol }
+    ensures { result ≡ hill_cmp carbon item.now other.now }
 {
-    hill_rank(carbon, &a.symbol)
-        .cmp(&hill_rank(carbon, &b.symbol))
-        .then(a.symbol.text().cmp(b.symbol.text()))
-        .then(a.label.cmp(&b.label))
+    rank.cmp(&hill_rank(carbon, &other.symbol))
+        .then(item.symbol.text().cmp(other.symbol.text()))
+        .then(item.label.cmp(&other.label))
 }

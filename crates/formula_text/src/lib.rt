@@ -12,6 +12,7 @@
 mod fault;
 mod formula;
 mod hill;
+mod limits;
 mod mass;
 mod parts;
 mod print;
@@ -20,7 +21,8 @@ mod sum;
 
 pub use fault::{FormulaFault, PartsFault};
 pub use formula::Formula;
-pub use parts::{MAX_ATOMS, MAX_ATOMS_OF_ITEM, MAX_ITEMS, Parts};
+pub use limits::{MAX_ATOMS, MAX_ATOMS_OF_ITEM, MAX_ITEMS};
+pub use parts::Parts;
 pub use read::read_formula;
 pub use written_items::Item;
 

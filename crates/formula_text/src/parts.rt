@@ -8,6 +8,7 @@ ghost use Rattle.formula_text.specs.Masses.{HasItems, mass_of};
 ghost use Rattle.formula_text.specs.PrintedText.{printed};
 
 use crate::fault::PartsFault;
+use crate::limits::MAX_ITEMS;
 use crate::mass::{has_item, mass_of};
 use crate::print::printed;
 use crate::sum::{count_of, has_many_atoms, has_many_of_one, sum_of};
@@ -15,15 +16,6 @@ use element_table::Table;
 use std::alloc::{AllocError, Global};
 use std::marker::Model;
 use written_items::Item;
-
-/// The greatest number of atoms of an item.
-pub const MAX_ATOMS_OF_ITEM: u32 = 10_000;
-
-/// The greatest number of atoms in all.
-pub const MAX_ATOMS: u32 = 20_000;
-
-/// The greatest number of items.
-pub const MAX_ITEMS: usize = 20;
 
 /// Items with their counts in Hill order: a part of a formula, which may have no atom. It has at
 /// most 10,000 atoms of an item, 20,000 in all, and 20 items.

@@ -1,5 +1,6 @@
 //! The reader of formula texts.
-ghost use Rattle.std.specs.Prelude.{◌≡◌, ◌<◌, length, map, IfOk, IfErr, IfSome, OnOk, OnErr, Result, List, ℕ, MatchBool, ⊤, Ok, Err};
+ghost use Rattle.std.specs.Prelude.{◌≡◌, ◌<◌, length, map, IfOk, IfErr, IfSome, OnOk, OnErr, Result, List, ℕ};
+ghost use Rattle.std.specs.Prelude.{MatchBool, ⊤, Ok, Err};
 ghost use Rattle.reader_answers.specs.Answers.{Gives};
 ghost use Rattle.std.specs.Str.Parse.{AllDigits};
 ghost use Rattle.element_table.specs.Elements.{IsTable};
@@ -7,15 +8,16 @@ ghost use Rattle.written_items.specs.RowReading.{count_tail, leading_part, row_o
 ghost use Rattle.formula_text.specs.FormulaFaults.{is_memory};
 ghost use Rattle.formula_text.specs.Masses.{HasItems};
 ghost use Rattle.formula_text.specs.FormulaTexts.{Answer, FormulaReading};
-ghost use Rattle.formula_text.specs.FormulaReader.{read_of, count_value, told_part, value_part, value_item, value_fault, values_fault, values_or_fault};
+ghost use Rattle.formula_text.specs.FormulaReader.{read_of, count_value, told_part, value_part, value_item};
+ghost use Rattle.formula_text.specs.FormulaReader.{value_fault, values_fault, values_or_fault};
 
 use crate::fault::FormulaFault;
 use crate::formula::Formula;
 use crate::parts::Parts;
 use element_table::Table;
-use fixed_decimal::capped_number;
+use fixed_decimal::{capped_number, leading_digits};
 use std::alloc::{AllocError, Global};
-use written_items::{BadItem, Item, LeadingItem, leading_digits, leading_item};
+use written_items::{BadItem, Item, LeadingItem, leading_item};
 
 /// An item of a text with its count.
 #[derive(Clone, Copy, Debug, PartialEq, Eq)]
@@ -61,7 +63,8 @@ fn formula_of(alloc: Global, table: &Table, text: &[u8]) -> Result<Formula, Form
 /// The items of a text with their counts, in the order of the text.
 fn read_parts(alloc: Global, text: &[u8]) -> Result<Vec<ReadPart>, FormulaFault>
     ensures parts { IfOk result (λ v. values_or_fault 0 (row_of count_tail text.now) ≡ Ok v.items) }
-    ensures fault { IfErr result (λ e. MatchBool (is_memory e) ⊤ (values_or_fault 0 (row_of count_tail text.now) ≡ Err e)) }
+    ensures fault { IfErr result (λ e.
+        MatchBool (is_memory e) ⊤ (values_or_fault 0 (row_of count_tail text.now) ≡ Err e)) }
 {
     let mut parts = Vec::new(alloc);
     let mut at = 0;

@@ -5,12 +5,13 @@ ghost use Rattle.std.specs.List.{list_any, prefix_len};
 ghost use Rattle.std.specs.Ordering.{is_gt};
 ghost use Rattle.std.specs.FinMap.{is_sorted};
 ghost use Rattle.written_items.specs.Items.{item_eq};
+ghost use Rattle.element_table.specs.SymbolText.{is_symbol};
 ghost use Rattle.formula_text.specs.HillOrder.{hill_cmp};
 ghost use Rattle.formula_text.specs.Limits.{max_atoms, max_atoms_of_item};
 ghost use Rattle.formula_text.specs.Formulas.{IsItem, atoms_of, with_part, sum_of};
 
-use crate::hill::{has_carbon, hill_cmp};
-use crate::parts::{MAX_ATOMS, MAX_ATOMS_OF_ITEM, MAX_ITEMS};
+use crate::hill::{has_carbon, hill_cmp, hill_rank};
+use crate::limits::{MAX_ATOMS, MAX_ATOMS_OF_ITEM, MAX_ITEMS};
 use std::alloc::{AllocError, Global};
 use std::cmp::Ordering;
 use written_items::Item;
@@ -56,11 +57,13 @@ pub fn count_of(items: &[(Item, u32)], item: &Item) -> u32
 
 /// How many of the items stand before this one.
 fn place_of(items: &[(Item, u32)], carbon: bool, item: &Item) -> usize
-    ensures { result ≡ prefix_len (λ p. is_gt (hill_cmp carbon item.now p.0)) items.now }
+    ensures place { result ≡ prefix_len (λ p. is_gt (hill_cmp carbon item.now p.0)) items.now }
+    ensures symbol { IsTrue (is_symbol item.now.symbol) }
 {
+    let rank = hill_rank(carbon, &item.symbol);
     items
         .iter()
-        .take_while(|(other, _)| hill_cmp(carbon, item, other) == Ordering::Greater)
+        .take_while(|(other, _)| hill_cmp(carbon, rank, item, other) == Ordering::Greater)
         .count()
 }
 
@@ -76,8 +79,6 @@ fn add_part(
     ensures sum { OnOk result (items.new.items ≡ with_part carbon items.old.items (item, count)) }
     ensures item { IsItem item }
 {
-    // Asking for the letters tells that they are a symbol.
-    let _letters = item.symbol.text();
     let place = place_of(items, carbon, &item);
     if place < items.len() && items[place].0 == item {
         items[place].1 += count;

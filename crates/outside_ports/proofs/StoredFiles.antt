@@ -1,5 +1,6 @@
 -- What a file that is stored in the place of another, or behind all, does to every name.
-use Rattle.std.proofs.Common.{◌≡◌, ◌≢◌, ℕ, zero, suc, ◌<◌, ◌≤◌, Bool, nat_lt, None, subst, true, false, List, [], ◌∷◌, ◌++◌, map, length, get_or, set, Some, cond, refl, ap, sym, arith, string_bytes}
+use Rattle.std.proofs.Common.{◌≡◌, ◌≢◌, ℕ, zero, suc, ◌<◌, ◌≤◌, Bool, nat_lt, None, subst, true, false, List, [], ◌∷◌}
+use Rattle.std.proofs.Common.{◌++◌, map, length, get_or, set, Some, cond, refl, ap, sym, arith, string_bytes}
 use Rattle.std.proofs.lemmas.Slice.Eq.{bytes_eq-Decides}
 use Rattle.std.proofs.lemmas.List.Sums.{fails_before_first, passes_at_first}
 use Rattle.std.specs.List.{position, position_or_len}

@@ -1,5 +1,6 @@
 -- What a fetch of a file answers and what it leaves.
-use Rattle.std.specs.Prelude.{◌≡◌, ℕ, ◌+◌, ◌<◌, ◌⊎◌, List, [], ◌∷◌, ◌++◌, length, take, Option, Some, IsSomeAnd, Result, Ok, Err, unwrap_or}
+use Rattle.std.specs.Prelude.{◌≡◌, ℕ, ◌+◌, ◌<◌, ◌⊎◌, List, [], ◌∷◌, ◌++◌, length, take, Option, Some, IsSomeAnd, Result}
+use Rattle.std.specs.Prelude.{Ok, Err, unwrap_or}
 use Rattle.std.specs.Io.{StartsWith}
 use Rattle.outside_ports.specs.Faults.{Rose}
 use Rattle.outside_ports.specs.declared.fault.FetchFault.{FetchFault}

@@ -1,5 +1,6 @@
 -- A sink of bytes in memory, of which puts can be named to fail.
-use Rattle.std.specs.Prelude.{ℕ, ◌-◌, min, Bool, ◌||◌, ◌==◌, nat_lt, List, ◌++◌, length, take, reverse, Option, is_some, unwrap_or, find, if◌then◌else◌}
+use Rattle.std.specs.Prelude.{ℕ, ◌-◌, min, Bool, ◌||◌, ◌==◌, nat_lt, List, ◌++◌, length, take, reverse, Option, is_some}
+use Rattle.std.specs.Prelude.{unwrap_or, find, if◌then◌else◌}
 use Rattle.std.specs.Option.{option_map}
 use Rattle.outside_ports.specs.Faults.{count_after}
 use Rattle.outside_ports.specs.declared.memory_sink.FailingPut.{FailingPut}

@@ -1,5 +1,6 @@
 //! A shelf of files in memory.
-ghost use Rattle.std.specs.Prelude.{◌≡◌, ◌+◌, ◌≤◌, ◌++◌, ◌∷◌, [], length, map, None, Some, MatchOption, OnOk, OnErr, IsErrOf, string_bytes};
+ghost use Rattle.std.specs.Prelude.{◌≡◌, ◌+◌, ◌≤◌, ◌++◌, ◌∷◌, [], length, map, None, Some, MatchOption, OnOk, OnErr};
+ghost use Rattle.std.specs.Prelude.{IsErrOf, string_bytes};
 ghost use Rattle.std.specs.List.{position};
 ghost use Rattle.std.specs.Str.{bytes_eq};
 ghost use Rattle.outside_ports.specs.Faults.{count_after};

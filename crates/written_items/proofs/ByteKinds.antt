@@ -1,14 +1,28 @@
 -- No byte is of two of the kinds capital letter, small letter, digit and bracket; runs of bytes of one kind.
-use Rattle.std.proofs.Common.{◌≡◌, ℕ, ◌+◌, Bool, true, false, cond, ◌&&◌, List, [], ◌∷◌, ◌++◌, length, take, drop, refl, ap, ◌∙◌, arith}
+use Rattle.std.proofs.Common.{◌≡◌, ℕ, ◌+◌, Bool, true, false, cond, ◌&&◌, List, [], ◌∷◌, ◌++◌, length, take, drop, refl}
+use Rattle.std.proofs.Common.{ap, ◌∙◌, arith}
 use Rattle.std.specs.List.{prefix_len, take_while, list_all}
 use Rattle.std.specs.Char.{is_ascii_digit}
-use Rattle.std.proofs.lemmas.Bool.{and_parts}
+use Rattle.std.specs.Str.Parse.{AllDigits}
+use Rattle.std.proofs.lemmas.Bool.{and_parts, and_from}
 use Rattle.std.proofs.lemmas.Bool.Decides.{nat_tests}
 use Rattle.std.proofs.lemmas.List.{take_at}
 use Rattle.std.proofs.Math.Numerals.{one-add}
 use Rattle.element_table.specs.SymbolText.{is_capital, is_small}
-use Rattle.written_items.specs.WrittenItems.{begins, is_item_start}
+use Rattle.fixed_decimal.proofs.PartsOfTexts.{is_digit-value, value-is_digit}
+use Rattle.written_items.specs.WrittenItems.{are_digits, begins, is_item_start}
 use Rattle.written_items.proofs.BadPlaceSteps.{first_byte}
+
+-- a run of digits, told by a test of each byte or by the values of the digits
+pub digits-numeral : (ds : List ℕ) → are_digits ds ≡ true → AllDigits 10 ds
+digits-numeral [] h = tt
+digits-numeral (d ∷ ds) h =
+    let parts = and_parts (is_ascii_digit d) (are_digits ds) h in
+    (value-is_digit d parts.0, digits-numeral ds parts.1)
+
+pub numeral-digits : (ds : List ℕ) → AllDigits 10 ds → are_digits ds ≡ true
+numeral-digits [] h = refl
+numeral-digits (d ∷ ds) h = and_from _ _ (is_digit-value d h.0) (numeral-digits ds h.1)
 
 pub digit-capital : (b : ℕ) → is_ascii_digit b ≡ true → is_capital b ≡ false
 digit-capital b h = grind (arith, nat_tests)

@@ -10,10 +10,11 @@ use Rattle.std.proofs.Math.Seq.{drop-append_seam}
 use Rattle.element_table.specs.SymbolText.{is_small}
 use Rattle.written_items.specs.WrittenItems.{are_digits, begins, is_item_start}
 use Rattle.written_items.specs.WrittenRows.{IsCountTail}
-use Rattle.written_items.specs.LeadingItems.{leading_digits}
+use Rattle.fixed_decimal.specs.Decimal.{leading_digits}
 use Rattle.written_items.specs.RowReading.{count_tail}
 use Rattle.written_items.proofs.BadPlaceSteps.{first_byte}
-use Rattle.written_items.proofs.ByteKinds.{digit-small, start-digit, begins-first, take_while-run, take_while-passes, take_while-stops}
+use Rattle.written_items.proofs.ByteKinds.{digit-small, start-digit, begins-first, take_while-run, take_while-passes}
+use Rattle.written_items.proofs.ByteKinds.{take_while-stops}
 use Rattle.written_items.proofs.RowLaws.{StartsItem, ReadsTails}
 
 digits-no_small : (tail : List ℕ) → IsCountTail tail → begins is_small tail ≡ false

@@ -1,25 +1,34 @@
 -- The item that a text begins with: what is written is read, what is read is written, and where none can go on
 -- is the place of bad text.
-use Rattle.std.proofs.Common.{◌≡◌, ℕ, ◌+◌, ◌<◌, ◌≤◌, Bool, true, false, cond, eqb, List, [], ◌∷◌, ◌++◌, length, drop, refl, sym, ap, subst, ◌∙◌, arith, append_assoc}
+use Rattle.std.proofs.Common.{◌≡◌, ℕ, ◌+◌, ◌<◌, ◌≤◌, Bool, true, false, cond, eqb, List, [], ◌∷◌, ◌++◌, length, drop}
+use Rattle.std.proofs.Common.{refl, sym, ap, subst, ◌∙◌, arith, append_assoc, ◌-◌, ◌^◌, length-append}
+use Rattle.std.specs.Prelude.{min}
+use Rattle.std.specs.Str.Parse.{digits_value}
 use Rattle.std.specs.Prelude.{Option, Some, None, Result, Ok, Err, IsTrue, IfSome, IfOk, IfErr}
 use Rattle.std.specs.List.{prefix_len}
-use Rattle.std.specs.Char.{is_ascii_digit, digit_value}
-use Rattle.std.specs.Str.Parse.{AllDigits}
-use Rattle.std.proofs.lemmas.Bool.Decides.{nat_tests}
-use Rattle.std.proofs.lemmas.Bool.{false≢true, and_parts, eqb-true, eqb-false, ne_eqb, or_from, or_left, false_from_ne_true}
+use Rattle.std.specs.Char.{is_ascii_digit}
+use Rattle.std.proofs.lemmas.Bool.{false≢true, and_parts, eqb-true, eqb-false, ne_eqb, or_from, or_left}
+use Rattle.std.proofs.lemmas.Bool.{false_from_ne_true}
 use Rattle.std.proofs.lemmas.List.{take-append-drop}
 use Rattle.std.proofs.lemmas.List.Folds.{length-prefix_len}
 use Rattle.std.proofs.Math.Seq.{drop-append_seam}
+use Rattle.fixed_decimal.specs.Decimal.{leading_digits}
+use Rattle.fixed_decimal.specs.DecimalTexts.{IsDigits}
+use Rattle.fixed_decimal.proofs.LeadingDigits.{leading_digits-AllDigits}
 use Rattle.element_table.specs.SymbolText.{is_symbol, is_capital, is_small}
 use Rattle.reader_answers.specs.BadPlaces.{IsBadPlace}
 use Rattle.written_items.specs.Items.{opening_bracket, closing_bracket}
-use Rattle.written_items.specs.WrittenItems.{WrittenItem, IsNumber, IsWrittenItem, are_digits, text_with, written_text, begins, is_item_start, EndsSymbol, IsLeadingItem, TellsLeadingItem, BeginsWithItem}
+use Rattle.written_items.specs.WrittenItems.{WrittenItem, IsWrittenItem, are_digits, text_with, written_text, begins}
+use Rattle.written_items.specs.WrittenItems.{is_item_start, EndsSymbol, IsLeadingItem, TellsLeadingItem, BeginsWithItem}
 use Rattle.written_items.specs.declared.item.LeadingItem.{LeadingItem}
 use Rattle.written_items.specs.declared.item.BadItem.{BadItem}
-use Rattle.written_items.specs.LeadingItems.{leading_digits, symbol_letters, leading_symbol, closed_item, numbered_item, labelled_item, plain_item, leading_item, told}
+use Rattle.written_items.specs.LeadingItems.{symbol_letters, leading_symbol, closed_item, numbered_item, labelled_item}
+use Rattle.written_items.specs.LeadingItems.{plain_item, leading_item, told}
 use Rattle.written_items.proofs.BadPlaceSteps.{first_byte, bad-here, bad-behind}
-use Rattle.written_items.proofs.ByteKinds.{capital-digit, begins-first, take_while-run, take_while-passes, take_while-stops}
-use Rattle.written_items.proofs.LeadingSymbols.{append-cancel, begins-symbol, symbol_letters-written, leading_symbol-written, leading_symbol-Some, leading_symbol-None}
+use Rattle.written_items.proofs.ByteKinds.{capital-digit, begins-first, digits-numeral, numeral-digits}
+use Rattle.written_items.proofs.ByteKinds.{take_while-run, take_while-stops}
+use Rattle.written_items.proofs.LeadingSymbols.{append-cancel, begins-symbol, symbol_letters-written}
+use Rattle.written_items.proofs.LeadingSymbols.{leading_symbol-written, leading_symbol-Some, leading_symbol-None}
 
 abbrev is_closing : ℕ → Bool
 is_closing byte = eqb byte closing_bracket
@@ -41,7 +50,7 @@ record SymbolClosed (text : List ℕ) : Type 0 where
 
 record NumberClosed (text : List ℕ) : Type 0 where
   digits : List ℕ
-  number : IsNumber digits
+  number : IsDigits digits
   letters : List ℕ
   is : IsTrue (is_symbol letters)
   rest : List ℕ
@@ -52,9 +61,9 @@ begins-letters : (s rest : List ℕ) → is_symbol s ≡ true → begins is_asci
 begins-letters [] rest h = absurd (false≢true h)
 begins-letters (a ∷ s) rest h = capital-digit a (begins-symbol (a ∷ s) rest h)
 
-begins-number : (ds rest : List ℕ) → IsNumber ds → begins is_ascii_digit (ds ++ rest) ≡ true
-begins-number [] rest h = let some = h.some_digit in absurd (omega (arith, some))
-begins-number (d ∷ ds) rest h = (and_parts (is_ascii_digit d) (are_digits ds) h.digits).0
+begins-number : (ds rest : List ℕ) → IsDigits ds → begins is_ascii_digit (ds ++ rest) ≡ true
+begins-number [] rest h = let some = h.0 in absurd (omega (arith, some))
+begins-number (d ∷ ds) rest h = (and_parts (is_ascii_digit d) (are_digits ds) (numeral-digits (d ∷ ds) h.1)).0
 
 -- a text that begins with an item begins with a capital letter or a bracket
 starts_with : (o : Option (List ℕ)) (s rest : List ℕ) → is_symbol s ≡ true
@@ -81,21 +90,42 @@ bad_closed text absent =
 
 bad_symbol : (text : List ℕ) → begins is_capital text ≡ false → IsBadPlace SymbolClosed text 0
 bad_symbol text absent =
-    bad-here SymbolClosed text (72 ∷ closing_bracket ∷ [], record { letters = 72 ∷ []; is = refl; rest = []; spelled = refl })
+    bad-here SymbolClosed text
+    (72 ∷ closing_bracket ∷ [], record { letters = 72 ∷ []; is = refl; rest = []; spelled = refl })
     (kind-absent SymbolClosed is_capital text
     (λ other is. ap (begins is_capital) is.spelled
     ∙ begins-symbol is.letters (closing_bracket ∷ is.rest) is.is) absent)
 
 bad_number : (text : List ℕ) → begins is_ascii_digit text ≡ false → IsBadPlace NumberClosed text 0
 bad_number text absent =
-    bad-here NumberClosed text (50 ∷ 72 ∷ closing_bracket ∷ [], record { digits = 50 ∷ []; number = record { some_digit = omega arith; digits = refl }; letters = 72 ∷ []; is = refl; rest = []; spelled = refl })
+    bad-here NumberClosed text (
+      50 ∷ 72 ∷ closing_bracket ∷ [],
+      record {
+        digits = 50 ∷ [];
+        number = (omega arith, digits-numeral (50 ∷ []) refl);
+        letters = 72 ∷ [];
+        is = refl;
+        rest =
+            [];
+        spelled = refl;
+      },
+    )
     (kind-absent NumberClosed is_ascii_digit text
     (λ other is. ap (begins is_ascii_digit) is.spelled
     ∙ begins-number is.digits (is.letters ++ (closing_bracket ∷ is.rest)) is.number) absent)
 
 bad_item : (text : List ℕ) → begins is_item_start text ≡ false → IsBadPlace BeginsWithItem text 0
 bad_item text absent =
-    bad-here BeginsWithItem text (72 ∷ [], record { item = record { symbol = 72 ∷ []; digits = None }; is = record { symbol = refl; digits = tt }; rest = []; spelled = refl })
+    bad-here BeginsWithItem text (
+      72 ∷ [],
+      record {
+        item = record { symbol = 72 ∷ []; digits = None };
+        is =
+            record { symbol = refl; digits = tt };
+        rest = [];
+        spelled = refl;
+      },
+    )
     (kind-absent BeginsWithItem is_item_start text
     (λ other is. ap (begins is_item_start) is.spelled ∙ begins-written is.item is.rest is.is) absent)
 
@@ -117,7 +147,7 @@ closed_behind s rest place h ends bad =
     })
     bad
 
-symbol_behind : (ds rest : List ℕ) (place : ℕ) → IsNumber ds → begins is_ascii_digit rest ≡ false
+symbol_behind : (ds rest : List ℕ) (place : ℕ) → IsDigits ds → begins is_ascii_digit rest ≡ false
     → IsBadPlace SymbolClosed rest place → IsBadPlace NumberClosed (ds ++ rest) (length ds + place)
 symbol_behind ds rest place number ends bad =
     bad-behind NumberClosed SymbolClosed ds rest place
@@ -133,12 +163,19 @@ symbol_behind ds rest place number ends bad =
     (λ other same is.
     let behind = is.letters ++ (closing_bracket ∷ is.rest) in
     let mine =
-    take_while-run is_ascii_digit ds other number.digits (begins-first is_ascii_digit other rest same ∙ ends) in
+    take_while-run is_ascii_digit ds other (numeral-digits ds number.1)
+    (begins-first is_ascii_digit other rest same ∙ ends) in
     let its =
-    take_while-run is_ascii_digit is.digits behind is.number.digits
+    take_while-run is_ascii_digit is.digits behind (numeral-digits is.digits is.number.1)
     (begins-letters is.letters (closing_bracket ∷ is.rest) is.is) in
     let digits : ds ≡ is.digits = sym mine ∙ ap leading_digits is.spelled ∙ its in
-    record { letters = is.letters; is = is.is; rest = is.rest; spelled = append-cancel ds is.digits other behind digits is.spelled })
+    record {
+      letters = is.letters;
+      is = is.is;
+      rest = is.rest;
+      spelled =
+          append-cancel ds is.digits other behind digits is.spelled;
+    })
     bad
 
 bracketed : (ds s rest : List ℕ) → ds ++ (s ++ (closing_bracket ∷ rest)) ≡ (ds ++ (s ++ (closing_bracket ∷ []))) ++ rest
@@ -146,7 +183,7 @@ bracketed ds s rest =
     sym (append_assoc ds (s ++ (closing_bracket ∷ [])) rest
     ∙ ap (λ t. ds ++ t) (append_assoc s (closing_bracket ∷ []) rest))
 
-in_brackets : (o : Option (List ℕ)) (s other rest : List ℕ) → is_symbol s ≡ true → IfSome o IsNumber
+in_brackets : (o : Option (List ℕ)) (s other rest : List ℕ) → is_symbol s ≡ true → IfSome o IsDigits
     → opening_bracket ∷ other ≡ text_with o s ++ rest → NumberClosed other
 in_brackets None s other rest h digits e =
     absurd (false≢true (ap (begins is_capital) e ∙ begins-symbol s rest h))
@@ -284,15 +321,8 @@ labelled-Err text place e =
       | false ↦ λ some e.
           let bad = closed-Err ds (drop (length ds) text) (leading_symbol (drop (length ds) text)) place refl e in
           let is : place ≡ 1 + length ds + bad.behind = bad.is in
-          let number : IsNumber ds =
-          record {
-            some_digit = omega (
-              arith,
-              eqb-false
-                  (length ds) 0 some,
-            );
-            digits = take_while-passes is_ascii_digit text;
-          } in
+          let number : IsDigits ds =
+          (omega (arith, eqb-false (length ds) 0 some), leading_digits-AllDigits text) in
           record {
             behind = length ds + bad.behind;
             is = omega arith;
@@ -305,7 +335,7 @@ labelled-Err text place e =
 record IsLabelled (text : List ℕ) (w : WrittenItem) : Type 0 where
   digits : List ℕ
   digits_are : w.digits ≡ Some digits
-  number : IsNumber digits
+  number : IsDigits digits
   letters_are : IsTrue (is_symbol w.symbol)
   rest : List ℕ
   spelled : text ≡ digits ++ (w.symbol ++ (closing_bracket ∷ rest))
@@ -324,14 +354,7 @@ labelled-Ok text w e =
             digits = ds;
             digits_are = item.digits_are;
             number =
-                record {
-                  some_digit = omega (
-                    arith,
-                    eqb-false
-                        (length ds) 0 some,
-                  );
-                  digits = take_while-passes is_ascii_digit text;
-                };
+                (omega (arith, eqb-false (length ds) 0 some), leading_digits-AllDigits text);
             letters_are = item.letters_are;
             rest = item.rest;
             spelled = read.spelled ∙ ap (λ t. ds ++ t) (sym read.is_rest ∙ item.spelled);
@@ -339,14 +362,15 @@ labelled-Ok text w e =
     ] refl e
 
 -- an item in brackets before any text is read
-labelled-written : (ds s rest : List ℕ) → IsNumber ds → is_symbol s ≡ true
+labelled-written : (ds s rest : List ℕ) → IsDigits ds → is_symbol s ≡ true
     → labelled_item (ds ++ (s ++ (closing_bracket ∷ rest))) ≡ Ok (record { symbol = s; digits = Some ds })
 labelled-written ds s rest number h =
     let behind = s ++ (closing_bracket ∷ rest) in
     let digits : leading_digits (ds ++ behind) ≡ ds =
-    take_while-run is_ascii_digit ds behind number.digits (begins-letters s (closing_bracket ∷ rest) h) in
+    take_while-run is_ascii_digit ds behind (numeral-digits ds number.1) (begins-letters s (closing_bracket ∷ rest) h)
+    in
     let some : eqb (length ds) 0 ≡ false =
-    ne_eqb (length ds) 0 (λ none. let few = number.some_digit in absurd (omega (arith, none, few))) in
+    ne_eqb (length ds) 0 (λ none. let few = number.0 in absurd (omega (arith, none, few))) in
     ap (λ d. numbered_item d (drop (length d) (ds ++ behind))) digits
     ∙ ap (numbered_item ds) (drop-append_seam ds behind)
     ∙ ap (λ b. cond b (Err 1) (closed_item ds (leading_symbol behind) behind)) some
@@ -409,7 +433,7 @@ bracketed_item text w bracket item =
       is =
           record {
             symbol = item.letters_are;
-            digits = subst (λ o. IfSome o IsNumber)
+            digits = subst (λ o. IfSome o IsDigits)
                 (sym item.digits_are) item.number;
           };
       rest = item.rest;
@@ -437,7 +461,7 @@ no_bracket (a ∷ s) rest h =
     (λ bracket. false≢true (ap is_capital (sym (eqb-true a opening_bracket bracket)) ∙ begins-symbol
     (a ∷ s) rest h))
 
-written : (o : Option (List ℕ)) (s rest : List ℕ) → is_symbol s ≡ true → IfSome o IsNumber
+written : (o : Option (List ℕ)) (s rest : List ℕ) → is_symbol s ≡ true → IfSome o IsDigits
     → (o ≡ None → EndsSymbol s rest) → leading_item (text_with o s ++ rest) ≡ Ok (record { symbol = s; digits = o })
 unfolding leading_item
 written None s rest h digits ends =
@@ -453,18 +477,6 @@ pub leading_item-written : (w : WrittenItem) (rest : List ℕ) → IsWrittenItem
 leading_item-written w rest is ends = written w.digits w.symbol rest is.symbol is.digits ends
 
 -- ---- what a reader tells
-
-digits-numeral : (ds : List ℕ) → are_digits ds ≡ true → AllDigits 10 ds
-digits-numeral [] h = tt
-digits-numeral (d ∷ ds) h =
-    let parts = and_parts (is_ascii_digit d) (are_digits ds) h in (digit-value d parts.0, digits-numeral ds parts.1)
-  where
-    digit-value : (d : ℕ) → is_ascii_digit d ≡ true → digit_value d < 10
-    digit-value d h = grind (arith, nat_tests)
-
--- leading digits spell a number
-pub leading_digits-AllDigits : (text : List ℕ) → AllDigits 10 (leading_digits text)
-leading_digits-AllDigits text = digits-numeral (leading_digits text) (take_while-passes is_ascii_digit text)
 
 pub TellsLeadingItem-told : (text : List ℕ) (r : Result LeadingItem BadItem) → r ≡ told (leading_item text)
     → IfOk r (TellsLeadingItem text)
@@ -502,3 +514,24 @@ pub plain-leading_item : (text : List ℕ) → begins is_opening text ≡ false
 unfolding leading_item
 plain-leading_item text other =
     sym (ap (λ b. told (cond b (labelled_item (drop 1 text)) (plain_item (leading_symbol text)))) other)
+
+abbrev told_item : List ℕ → ℕ → ℕ → Result LeadingItem BadItem
+told_item s number count = Ok (record { symbol = s; number = Some number; byte_count = count })
+
+-- the item in brackets of these digits and this symbol, as a reader tells it
+pub told-labelled : (text ds s : List ℕ) (number : ℕ) → ds ≡ leading_digits text → eqb (length ds) 0 ≡ false
+    → leading_symbol (drop (length ds) text) ≡ Some s
+    → begins is_closing (drop (length s) (drop (length ds) text)) ≡ true
+    → number ≡ min (digits_value 10 ds) (2 ^ 32 - 1)
+    → told_item s number (1 + length ds + length s + 1) ≡ told (labelled_item text)
+told-labelled text ds s number digits some symbol closed value =
+    let behind = drop (length ds) text in
+    let item : WrittenItem = record { symbol = s; digits = Some ds } in
+    let size : 1 + length ds + length s + 1 ≡ length (written_text item) =
+    omega (arith, length-append ds (s ++ closing_bracket ∷ []), length-append s (closing_bracket ∷ [])) in
+    ap (λ n. told_item s n (1 + length ds + length s + 1)) value
+    ∙ ap (λ n. told_item s (min (digits_value 10 ds) (2 ^ 32 - 1)) n) size
+    ∙ sym (ap (λ b. told (closed_if ds s b)) closed)
+    ∙ sym (ap (λ o. told (closed_item ds o behind)) symbol)
+    ∙ sym (ap (λ b. told (cond b (Err 1) (closed_item ds (leading_symbol behind) behind))) some)
+    ∙ ap (λ d. told (numbered_item d (drop (length d) text))) digits

@@ -1,6 +1,8 @@
 -- Rows of items with tails: what is written is read, so that a text is one row at most; what is read is written;
 -- and where no row can go on is the place of bad text. For any grammar of tails with a reader of its own.
-use Rattle.std.proofs.Common.{◌≡◌, ℕ, zero, suc, ◌+◌, ◌-◌, ◌<◌, Bool, true, false, List, [], ◌∷◌, ◌++◌, length, take, drop, refl, sym, ap, subst, ◌∙◌, arith, append_assoc, append-nil, length-append, length-take, inl, inr}
+use Rattle.std.proofs.Common.{◌≡◌, ℕ, zero, suc, ◌+◌, ◌-◌, ◌<◌, Bool, true, false, List, [], ◌∷◌, ◌++◌, length, take}
+use Rattle.std.proofs.Common.{drop, refl, sym, ap, subst, ◌∙◌, arith, append_assoc, append-nil, length-append}
+use Rattle.std.proofs.Common.{length-take, inl, inr}
 use Rattle.std.specs.Prelude.{None, Result, Ok, Err, not}
 use Rattle.std.specs.List.{AllByRecursion}
 use Rattle.std.proofs.lemmas.Bool.{false≢true, cases_lt, not_from_true}
@@ -10,14 +12,17 @@ use Rattle.std.proofs.Math.Seq.{drop-append_seam, take-append_seam}
 use Rattle.element_table.specs.SymbolText.{is_small}
 use Rattle.reader_answers.specs.BadPlaces.{Begins, IsBadPlace}
 use Rattle.reader_answers.proofs.BadPlaceLaws.{bad-place-no-text}
-use Rattle.written_items.specs.WrittenItems.{WrittenItem, IsWrittenItem, written_text, begins, is_item_start, EndsSymbol, IsLeadingItem, BeginsWithItem}
+use Rattle.written_items.specs.WrittenItems.{WrittenItem, IsWrittenItem, written_text, begins, is_item_start}
+use Rattle.written_items.specs.WrittenItems.{EndsSymbol, IsLeadingItem, BeginsWithItem}
 use Rattle.written_items.specs.WrittenRows.{WrittenPart, part_text, row_text, IsPart, IsRowOf, IsRow}
 use Rattle.written_items.specs.LeadingItems.{leading_item}
-use Rattle.written_items.specs.RowReading.{TailReader, part_with, part_behind, leading_part, row_with, row_behind, row_after, row_of}
+use Rattle.written_items.specs.RowReading.{TailReader, part_with, part_behind, leading_part, row_with, row_behind}
+use Rattle.written_items.specs.RowReading.{row_after, row_of}
 use Rattle.written_items.proofs.BadPlaceSteps.{first_byte, bad-behind}
 use Rattle.written_items.proofs.ByteKinds.{begins-first, start-small}
 use Rattle.written_items.proofs.LeadingSymbols.{append-cancel}
-use Rattle.written_items.proofs.LeadingItemLaws.{begins-written, leading_item-Err, leading_item-Ok, leading_item-written}
+use Rattle.written_items.proofs.LeadingItemLaws.{begins-written, leading_item-Err, leading_item-Ok}
+use Rattle.written_items.proofs.LeadingItemLaws.{leading_item-written}
 
 -- the text is empty, or begins as an item does
 abbrev pub StartsItem : List ℕ → Type 0
@@ -369,7 +374,9 @@ module _ (IsTail : List ℕ → Type 0) (tail_at : TailReader) (reads : ReadsTai
           }
 
   -- behind a part that a row begins with there is a row
-  part-behind : (text : List ℕ) (part : WrittenPart) (leading : IsLeadingPart text part) (item : IsLeadingItem text part.item) (other : List ℕ) → first_byte other ≡ first_byte leading.rest → IsRow IsTail (part_text part ++ other) → IsRow IsTail other
+  part-behind : (text : List ℕ) (part : WrittenPart) (leading : IsLeadingPart text part)
+      (item : IsLeadingItem text part.item) (other : List ℕ) → first_byte other ≡ first_byte leading.rest
+      → IsRow IsTail (part_text part ++ other) → IsRow IsTail other
   part-behind text part leading item other same is =
       let tail = part.tail in
       let behind =
@@ -433,7 +440,8 @@ module _ (IsTail : List ℕ → Type 0) (tail_at : TailReader) (reads : ReadsTai
                 ∙ ap (take place) b.spelled ∙ take-append-le place w b.rest inside in (
                   drop place w,
                   subst (IsRow IsTail)
-                      (sym (take-append-drop place w) ∙ ap (λ t. t ++ drop place w) (sym front)) (item_alone b.item b.is),
+                      (sym (take-append-drop place w) ∙ ap (λ t. t ++ drop place w) (sym front))
+                      (item_alone b.item b.is),
                 )
           ]
 
@@ -456,7 +464,8 @@ module _ (IsTail : List ℕ → Type 0) (tail_at : TailReader) (reads : ReadsTai
       → IsBadPlace (IsRow IsTail) leading.rest place → IsBadPlace (IsRow IsTail) text (length (part_text part) + place)
   row-bad text part leading place bad =
       let item : IsLeadingItem text part.item =
-      record { is = leading.is.item; rest = part.tail ++ leading.rest; spelled = leading.behind; ends = leading.ends } in
+      record { is = leading.is.item; rest = part.tail ++ leading.rest; spelled = leading.behind; ends = leading.ends }
+      in
       subst (λ t. IsBadPlace (IsRow IsTail) t (length (part_text part) + place)) (sym leading.spelled)
       (bad-behind (IsRow IsTail) (IsRow IsTail) (part_text part) leading.rest place
       (λ other is. one-more IsTail part other leading.is is)

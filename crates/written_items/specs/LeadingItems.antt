@@ -1,17 +1,14 @@
 -- The item that a text begins with, computed: the one answer that IsLeadingItem and the place of bad text
 -- allow. Proofs use it, and definitions of readers of whole rows.
-use Rattle.std.specs.Prelude.{ℕ, ◌+◌, ◌==◌, List, length, take, drop, if◌then◌else◌, Option, Some, None, Result, Ok, Err}
-use Rattle.std.specs.List.{prefix_len, take_while}
-use Rattle.std.specs.Char.{is_ascii_digit}
+use Rattle.std.specs.Prelude.{ℕ, ◌+◌, ◌==◌, List, length, take, drop, if◌then◌else◌, Option, Some, None, Result, Ok}
+use Rattle.std.specs.Prelude.{Err}
+use Rattle.std.specs.List.{prefix_len}
+use Rattle.fixed_decimal.specs.Decimal.{leading_digits}
 use Rattle.element_table.specs.SymbolText.{is_symbol, is_small}
 use Rattle.written_items.specs.declared.item.LeadingItem.{LeadingItem}
 use Rattle.written_items.specs.declared.item.BadItem.{BadItem}
 use Rattle.written_items.specs.Items.{opening_bracket, closing_bracket}
 use Rattle.written_items.specs.WrittenItems.{WrittenItem, begins, item_value}
-
--- the digits that a text begins with
-abbrev pub leading_digits : List ℕ → List ℕ
-leading_digits text = take_while is_ascii_digit text
 
 -- the letters of the symbol that a text begins with, if its first byte is a capital letter
 abbrev pub symbol_letters : List ℕ → List ℕ

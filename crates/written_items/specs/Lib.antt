@@ -4,4 +4,5 @@ pub mod LeadingItems
 pub mod WrittenRows
 pub mod RowReading
 pub use Rattle.reader_answers.specs.BadPlaces
+pub use Rattle.fixed_decimal.specs.DecimalTexts
 pub use Rattle.element_table.specs.SymbolText

@@ -3,7 +3,8 @@
 use Rattle.std.specs.Prelude.{ℕ, zero, suc, ◌+◌, ◌-◌, List, [], ◌∷◌, length, drop, Result, Ok, Err}
 use Rattle.written_items.specs.WrittenItems.{WrittenItem, written_text}
 use Rattle.written_items.specs.WrittenRows.{WrittenPart, part_text}
-use Rattle.written_items.specs.LeadingItems.{leading_digits, leading_item}
+use Rattle.fixed_decimal.specs.Decimal.{leading_digits}
+use Rattle.written_items.specs.LeadingItems.{leading_item}
 
 -- what reads a tail at the beginning of a text
 abbrev pub TailReader : Type 0

@@ -2,11 +2,13 @@
 --     item   = symbol | "[" digits symbol "]"
 --     symbol = capital small? small?    as many small letters as follow, at most two
 --     digits = digit digit ..           one or more
-use Rattle.std.specs.Prelude.{ℕ, ◌≡◌, ◌<◌, ◌-◌, min, ◌^◌, Bool, true, false, ◌==◌, ◌||◌, ◌&&◌, nat_lt, List, [], ◌∷◌, ◌++◌, length, IsTrue, Option, Some, None, IfSome, option_map}
+use Rattle.std.specs.Prelude.{ℕ, ◌≡◌, ◌<◌, ◌-◌, min, ◌^◌, Bool, true, false, ◌==◌, ◌||◌, ◌&&◌, nat_lt, List, [], ◌∷◌}
+use Rattle.std.specs.Prelude.{◌++◌, length, IsTrue, Option, Some, None, IfSome, option_map}
 use Rattle.std.specs.List.{list_all}
 use Rattle.std.specs.Option.{option_map_or}
 use Rattle.std.specs.Char.{is_ascii_digit}
 use Rattle.std.specs.Str.Parse.{digits_value}
+use Rattle.fixed_decimal.specs.DecimalTexts.{IsDigits}
 use Rattle.element_table.specs.SymbolText.{is_symbol, is_capital, is_small}
 use Rattle.written_items.specs.declared.item.Item.{Item}
 use Rattle.written_items.specs.declared.item.LeadingItem.{LeadingItem}
@@ -21,15 +23,10 @@ pub record WrittenItem : Type 0 where
 abbrev pub are_digits : List ℕ → Bool
 are_digits bytes = list_all is_ascii_digit bytes
 
--- one or more digits
-pub record IsNumber (bytes : List ℕ) : Type 0 where
-  pub some_digit : 0 < length bytes
-  pub digits : IsTrue (are_digits bytes)
-
 -- an item of the grammar
 pub record IsWrittenItem (item : WrittenItem) : Type 0 where
   pub symbol : IsTrue (is_symbol item.symbol)
-  pub digits : IfSome item.digits IsNumber
+  pub digits : IfSome item.digits IsDigits
 
 -- a symbol alone, or in brackets behind digits
 abbrev pub text_with : Option (List ℕ) → List ℕ → List ℕ

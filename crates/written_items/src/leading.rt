@@ -2,30 +2,13 @@
 ghost use Rattle.std.specs.Prelude.{◌≡◌, ◌==◌, true, false, drop, IfOk, IfErr, IfSome, IfNone};
 ghost use Rattle.reader_answers.specs.BadPlaces.{IsBadPlace};
 ghost use Rattle.std.specs.List.{prefix_len};
-ghost use Rattle.std.specs.Str.Parse.{AllDigits};
-ghost use Rattle.std.specs.Char.{is_ascii_digit};
 ghost use Rattle.element_table.specs.SymbolText.{is_capital, is_small};
 ghost use Rattle.written_items.specs.WrittenItems.{BeginsWithItem, TellsLeadingItem, IsLeadingSymbol, begins};
-ghost use Rattle.written_items.specs.LeadingItems.{leading_digits, leading_symbol, leading_item, labelled_item, plain_item, told};
+ghost use Rattle.written_items.specs.LeadingItems.{leading_symbol, leading_item, labelled_item, plain_item, told};
 
 use crate::item::{BadItem, LeadingItem};
 use element_table::Symbol;
-use fixed_decimal::capped_number;
-
-/// The digits that a text begins with, as many as there are.
-pub fn leading_digits(text: &[u8]) -> &[u8]
-    ensures digits { result.now ≡ leading_digits text.now }
-    ensures number { AllDigits 10 result.now }
-{
-    &text[..digit_count(text)]
-}
-
-/// How many digits a text begins with.
-fn digit_count(text: &[u8]) -> usize
-    ensures { result ≡ prefix_len is_ascii_digit text.now }
-{
-    text.iter().take_while(|byte| byte.is_ascii_digit()).count()
-}
+use fixed_decimal::{capped_number, leading_digits};
 
 /// How many small letters a text begins with.
 fn small_letter_count(text: &[u8]) -> usize

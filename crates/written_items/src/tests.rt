@@ -65,9 +65,7 @@ fn bad_text_is_at_the_first_byte_at_which_no_item_can_go_on(rt: HostRuntime) -> 
 }
 
 #[test]
-fn digits_and_symbols_are_read_at_the_beginning_of_a_text(rt: HostRuntime) -> Result<(), Fail> {
-    assert_eq!(rt; leading_digits(b"0012-5"), b"0012".as_slice());
-    assert_eq!(rt; leading_digits(b"C12").len(), 0);
+fn the_symbol_at_the_beginning_of_a_text_is_read(rt: HostRuntime) -> Result<(), Fail> {
     assert!(rt; leading_symbol(b"NaCl") == Symbol::of(b"Na"));
     assert!(rt; leading_symbol(b"2H").is_none());
     Ok(())

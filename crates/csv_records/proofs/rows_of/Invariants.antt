@@ -14,5 +14,6 @@ invariant-loop-row l = record {
   flexible : l.row-iterator.rdr.flexible ≡ true;
   config : l.row-iterator.rdr.config ≡ default_config;
   reached : (y : List ℕ) × (source_of (λ s. Some s.now) l.row-iterator.rdr ≡ Some y)
-      × Reached default_config st.StartRecord (strip_bom l.fn.bytes) (map fields_of l.rows.items) l.row-iterator.rdr.state y;
+      × Reached default_config st.StartRecord (strip_bom l.fn.bytes) (map fields_of l.rows.items)
+      l.row-iterator.rdr.state y;
 }

@@ -5,8 +5,8 @@ use Rattle.std.proofs.lemmas.List.{take_rest}
 use Rattle.decompose.specs.declared.limits.Limit.{Limit}
 use Rattle.decompose.specs.declared.limits.TheConstants.{MAX_COUNT}
 use Rattle.written_items.specs.WrittenItems.{begins}
-use Rattle.written_items.specs.LeadingItems.{leading_digits}
-use Rattle.written_items.proofs.LeadingItemLaws.{leading_digits-AllDigits}
+use Rattle.fixed_decimal.specs.Decimal.{leading_digits}
+use Rattle.fixed_decimal.proofs.LeadingDigits.{leading_digits-AllDigits}
 use Rattle.alphabet_text.specs.WrittenEntries.{high_place}
 use Rattle.alphabet_text.proofs.RangeTails.{is_hyphen, behind_digits, high_of}
 use Rattle.alphabet_text.proofs.RangeValues.{range-kept}

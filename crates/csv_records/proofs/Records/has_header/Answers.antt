@@ -7,13 +7,15 @@ pub returns-then-ne : goal.returns-then-ne
 returns-then-ne c =
     let some : 0 < length c.args.self.now = grind (arith, c.is_empty.ensures, c.if-is_empty.false) in
     other_field _ c.args.self.now c.loop-column.column some
-    (other_name c.ne.result c.field.result.now _ c.args.names.now c.loop-column.column _ c.loop-column-test.true c.field.ensures
+    (other_name c.ne.result c.field.result.now _ c.args.names.now c.loop-column.column _ c.loop-column-test.true
+    c.field.ensures
     c.ne.ensures c.if-ne.true)
 
 pub loop-column-preserved : goal.loop-column-preserved
 loop-column-preserved c =
     below_more _ _ c.loop-column.invariant
-    (same_name c.ne.result c.field.result.now _ c.args.names.now c.loop-column.column _ c.loop-column-test.true c.field.ensures
+    (same_name c.ne.result c.field.result.now _ c.args.names.now c.loop-column.column _ c.loop-column-test.true
+    c.field.ensures
     c.ne.ensures c.if-ne.false)
 
 pub returns : goal.returns

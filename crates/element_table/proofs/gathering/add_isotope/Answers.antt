@@ -5,7 +5,8 @@ use Rattle.indexmap.proofs.CallerLemmas.{insert_entry-new}
 use Rattle.std.specs.Map.{values_of}
 use Rattle.std.specs.Str.{bytes_eq}
 use Rattle.element_table.specs.TableRows.{element_with}
-use Rattle.element_table.proofs.Entries.{lookup_by_symbol, values-with_isotope, symbols-set_value, with_isotope_of-new, AreElements-set_value, AreElements-push, fault_among-found, fault_among-new}
+use Rattle.element_table.proofs.Entries.{lookup_by_symbol, values-with_isotope, symbols-set_value, with_isotope_of-new}
+use Rattle.element_table.proofs.Entries.{AreElements-set_value, AreElements-push, fault_among-found, fault_among-new}
 use Rattle.element_table.proofs.FaultSteps.{GivesAs-within, unless_fault-none, unless_fault-some}
 use Rattle.element_table.proofs.gathering.add_isotope.Goals as goal
 use Rattle.element_table.proofs.gathering.add_isotope.Goals.{Joined-branch-3}

@@ -1,7 +1,8 @@
 use Rattle.std.proofs.Common.{◌≡◌, true, false, Ok, Err, sym, ap, ◌∙◌}
 use Rattle.std.proofs.lemmas.Result.{err_from_is_err_and}
 use Rattle.element_table.specs.TableRows.{is_electron}
-use Rattle.element_table.proofs.RowRanges.{row_of-electron, row_of-isotope, row_of-no_symbol, numbers_of-within, electron_row, symbol_ok, symbol_err}
+use Rattle.element_table.proofs.RowRanges.{row_of-electron, row_of-isotope, row_of-no_symbol, numbers_of-within}
+use Rattle.element_table.proofs.RowRanges.{electron_row, symbol_ok, symbol_err}
 use Rattle.element_table.proofs.row.read_row.Goals as goal
 
 pub returns-in_err-numbers-clause-row : goal.returns-in_err-numbers-clause-row
@@ -49,5 +50,12 @@ returns-clause-within c =
       symbol_ok = rw is.1 is.0;
       valence_to = within.valence_to;
       isotope_ok =
-          record { number_from = within.number_from; number_to = within.number_to; mass_from = within.mass_from; mass_to = within.mass_to; weight_to = within.weight_to };
+          record {
+            number_from = within.number_from;
+            number_to = within.number_to;
+            mass_from =
+                within.mass_from;
+            mass_to = within.mass_to;
+            weight_to = within.weight_to;
+          };
     }

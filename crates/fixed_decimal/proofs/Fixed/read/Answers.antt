@@ -45,3 +45,11 @@ pub returns-clause-only : goal.returns-clause-only
 unfolding read_decimal decimal_value fine_place
 returns-clause-only g c =
     only_answer g.row.D c.args.limit c.args.text.now (Ok c.in_ok-units.units) (search rules)
+
+pub returns-in_err-units-clause-value : goal.returns-in_err-units-clause-value
+unfolding read_decimal fine_place decimal_value
+returns-in_err-units-clause-value g c = search rules
+
+pub returns-clause-value : goal.returns-clause-value
+unfolding read_decimal fine_place decimal_value
+returns-clause-value g c = search rules

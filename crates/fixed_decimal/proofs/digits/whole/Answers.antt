@@ -4,7 +4,8 @@ use Rattle.fixed_decimal.specs.Decimal.{whole_number}
 use Rattle.fixed_decimal.proofs.NumbersInRange.{whole_number-some, whole_number-none}
 use Rattle.fixed_decimal.proofs.ReadTexts.{all_digits-whole}
 use Rattle.fixed_decimal.proofs.digits.whole.Goals as goal
-use Rattle.fixed_decimal.proofs.digits.whole.Goals.{then-is_empty-via-then-is_empty, then-is_empty-via-else-is_empty+then-digit_count-text}
+use Rattle.fixed_decimal.proofs.digits.whole.Goals.{then-is_empty-via-then-is_empty}
+use Rattle.fixed_decimal.proofs.digits.whole.Goals.{then-is_empty-via-else-is_empty+then-digit_count-text}
 
 pub append_digits-requires : goal.append_digits-requires
 append_digits-requires c = all_digits-whole c.args.text.now (omega arith)

@@ -6,7 +6,8 @@ use Rattle.fixed_decimal.proofs.digits.whole_within.Goals as goal
 pub returns-clause-within : goal.returns-clause-within
 returns-clause-within c =
     let value : c.then_some.result ≡ whole_within c.args.low c.args.high c.args.text.now = search rules in
-    IfSome-from c.then_some.result _ (λ n is. whole_within-range c.args.low c.args.high c.args.text.now n (sym value ∙ is))
+    IfSome-from c.then_some.result _
+    (λ n is. whole_within-range c.args.low c.args.high c.args.text.now n (sym value ∙ is))
 
 pub returns-clause-some : goal.returns-clause-some
 returns-clause-some c = whole_within-some c.args.low c.args.high c.args.text.now c.then_some.result (search rules)

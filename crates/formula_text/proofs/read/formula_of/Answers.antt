@@ -6,7 +6,8 @@ use Rattle.formula_text.specs.declared.read.ReadPart.{ReadPart}
 use Rattle.formula_text.specs.Formulas.{parts_of}
 use Rattle.formula_text.specs.FormulaFaults.{is_memory, fault_of}
 use Rattle.formula_text.specs.FormulaReader.{formula_or_fault, values_fault}
-use Rattle.formula_text.proofs.ReadAnswers.{read_of-bad, unless-memory, read_of-unknown, read_of-items, unless-same, fault_of-parts, some_from_parts, none_from_parts}
+use Rattle.formula_text.proofs.ReadAnswers.{read_of-bad, unless-memory, read_of-unknown, read_of-items, unless-same}
+use Rattle.formula_text.proofs.ReadAnswers.{fault_of-parts, some_from_parts, none_from_parts}
 use Rattle.formula_text.proofs.read.formula_of.Goals as goal
 
 pub returns-in_err-parts : goal.returns-in_err-parts
@@ -33,7 +34,8 @@ pub returns-in_err-parts-2 : goal.returns-in_err-parts-2
 returns-in_err-parts-2 c =
     let p = err_from_is_err_and c.from_residual-in_err-parts-2.result c.from_residual-in_err-parts-2.ensures.1 in
     let known =
-    read_of-items c.args.table.now c.args.text.now c.in_ok-parts.parts.items c.deref.result.now c.deref-2.result.now c.deref-3.result.now
+    read_of-items c.args.table.now c.args.text.now c.in_ok-parts.parts.items c.deref.result.now c.deref-2.result.now
+    c.deref-3.result.now
     c.in_ok-parts.ensures.parts c.deref.ensures.value c.deref-2.ensures.value c.unknown_item.ensures.table
     (sym c.in_default.is ∙ c.unknown_item.ensures.fault) (c.deref-3.ensures.value ∙ c.in_ok-items.ensures) in
     rw (p.1, p.2) (subst (Gives is_memory (Err (fault_of c.in_err-parts-2.field-0.0))) (sym known)
@@ -42,7 +44,8 @@ returns-in_err-parts-2 c =
 pub returns-in-Some-from_parts : goal.returns-in-Some-from_parts
 returns-in-Some-from_parts c =
     let known =
-    read_of-items c.args.table.now c.args.text.now c.in_ok-parts.parts.items c.deref.result.now c.deref-2.result.now c.deref-3.result.now
+    read_of-items c.args.table.now c.args.text.now c.in_ok-parts.parts.items c.deref.result.now c.deref-2.result.now
+    c.deref-3.result.now
     c.in_ok-parts.ensures.parts c.deref.ensures.value c.deref-2.ensures.value c.unknown_item.ensures.table
     (sym c.in_default.is ∙ c.unknown_item.ensures.fault) (c.deref-3.ensures.value ∙ c.in_ok-items.ensures) in
     known ∙ ap formula_or_fault c.in_ok-parts-2.ensures.sum
@@ -51,7 +54,8 @@ returns-in-Some-from_parts c =
 pub returns : goal.returns
 returns c =
     let known =
-    read_of-items c.args.table.now c.args.text.now c.in_ok-parts.parts.items c.deref.result.now c.deref-2.result.now c.deref-3.result.now
+    read_of-items c.args.table.now c.args.text.now c.in_ok-parts.parts.items c.deref.result.now c.deref-2.result.now
+    c.deref-3.result.now
     c.in_ok-parts.ensures.parts c.deref.ensures.value c.deref-2.ensures.value c.unknown_item.ensures.table
     (sym c.in_default.is ∙ c.unknown_item.ensures.fault) (c.deref-3.ensures.value ∙ c.in_ok-items.ensures) in
     known ∙ ap formula_or_fault c.in_ok-parts-2.ensures.sum

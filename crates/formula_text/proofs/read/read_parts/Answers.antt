@@ -2,7 +2,8 @@ use Rattle.std.proofs.Common.{ℕ, ◌+◌, ◌<◌, List, ◌∷◌, [], length
 use Rattle.std.proofs.lemmas.List.{take_rest, drop-drop}
 use Rattle.written_items.specs.RowReading.{count_tail, leading_part, row_of}
 use Rattle.formula_text.specs.FormulaReader.{told_part, values_or_fault}
-use Rattle.formula_text.proofs.ReadingSteps.{values_before, values_before-append, NextPart, next_part, BadPart, bad_part, values-end}
+use Rattle.formula_text.proofs.ReadingSteps.{values_before, values_before-append, NextPart, next_part, BadPart}
+use Rattle.formula_text.proofs.ReadingSteps.{bad_part, values-end}
 use Rattle.formula_text.proofs.read.read_parts.Goals as goal
 use Rattle.formula_text.proofs.read.read_parts.Goals.{In_ok-push-in-Ok, After-drop-parts-in-Err}
 

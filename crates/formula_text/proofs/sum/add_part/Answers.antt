@@ -7,13 +7,14 @@ use Rattle.formula_text.specs.HillOrder.{hill_cmp}
 use Rattle.formula_text.proofs.HillOrderLaws.{item_eq-same, item_eq-other}
 use Rattle.formula_text.proofs.Places.{place_of, FoundAt, AbsentAt, with_part-found, with_part-absent}
 use Rattle.formula_text.proofs.sum.add_part.Goals as goal
-use Rattle.formula_text.proofs.sum.add_part.Goals.{else-place-len-via-then-place-len+else-eq, else-place-len-via-else-place-len}
+use Rattle.formula_text.proofs.sum.add_part.Goals.{else-place-len-via-then-place-len+else-eq}
+use Rattle.formula_text.proofs.sum.add_part.Goals.{else-place-len-via-else-place-len}
 
 pub insert-requires : goal.insert-requires
 insert-requires c =
     let items = c.args.items.now in
     let is : c.place_of-place.result ≡ place_of c.args.carbon c.args.item items.items =
-    c.place_of-place.ensures ∙ ap (place_of c.args.carbon c.args.item) c.deref.ensures.value in
+    c.place_of-place.ensures.place ∙ ap (place_of c.args.carbon c.args.item) c.deref.ensures.value in
     omega (
       arith,
       prefix_len-le-length
@@ -26,7 +27,7 @@ returns-then-eq-clause-sum c =
     let items = c.args.items.now in
     let n = c.place_of-place.result in
     let is : n ≡ place_of c.args.carbon c.args.item items.items =
-    c.place_of-place.ensures ∙ ap (place_of c.args.carbon c.args.item) c.deref.ensures.value in
+    c.place_of-place.ensures.place ∙ ap (place_of c.args.carbon c.args.item) c.deref.ensures.value in
     let x = c.index.result.now in
     let y = c.index_mut.result.now in
     let there = get_or_read items.items n x (omega (arith, items.ok.0)) c.index.ensures in
@@ -43,7 +44,7 @@ returns-in_ok-insert-clause-sum c =
     let items = c.args.items.now in
     let n = c.place_of-place.result in
     let is : n ≡ place_of c.args.carbon c.args.item items.items =
-    c.place_of-place.ensures ∙ ap (place_of c.args.carbon c.args.item) c.deref.ensures.value in
+    c.place_of-place.ensures.place ∙ ap (place_of c.args.carbon c.args.item) c.deref.ensures.value in
     let at : AbsentAt c.args.item items.items n = elim c.else-place-len.branch [
       | else-place-len-via-then-place-len+else-eq w ↦ λ h d same.
           let x = w.index.result.now in

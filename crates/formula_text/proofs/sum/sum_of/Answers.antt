@@ -2,7 +2,8 @@ use Rattle.std.proofs.Common.{◌≡◌, ℕ, ◌+◌, ◌≤◌, get_or, take, 
 use Rattle.std.proofs.lemmas.List.Sums.{sum_by_more_le}
 use Rattle.written_items.specs.declared.item.Item.{Item}
 use Rattle.formula_text.specs.Formulas.{IsItem, atoms_of, with_part}
-use Rattle.formula_text.proofs.SumFolds.{sum_so_far, sum_so_far-sorted, sum_so_far-atoms, sum_so_far-more, sum_so_far-none, item-with_part}
+use Rattle.formula_text.proofs.SumFolds.{sum_so_far, sum_so_far-sorted, sum_so_far-atoms, sum_so_far-more}
+use Rattle.formula_text.proofs.SumFolds.{sum_so_far-none, item-with_part}
 use Rattle.formula_text.proofs.sum.sum_of.Goals as goal
 use Rattle.formula_text.proofs.sum.sum_of.Goals.{then-count-gt0+in_ok-add_part, else-count-gt0}
 

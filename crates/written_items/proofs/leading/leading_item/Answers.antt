@@ -1,13 +1,15 @@
 use Rattle.std.proofs.Common.{◌≡◌, sym, ap, ◌∙◌}
 use Rattle.std.proofs.lemmas.List.{take_rest}
 use Rattle.written_items.specs.LeadingItems.{labelled_item, leading_item, told}
-use Rattle.written_items.proofs.LeadingItemLaws.{labelled-leading_item, plain-leading_item, TellsLeadingItem-told, IsBadPlace-told}
+use Rattle.written_items.proofs.LeadingItemLaws.{labelled-leading_item, plain-leading_item, TellsLeadingItem-told}
+use Rattle.written_items.proofs.LeadingItemLaws.{IsBadPlace-told}
 use Rattle.written_items.proofs.leading.leading_item.Goals as goal
 use Rattle.written_items.proofs.leading.leading_item.Goals.{After-labelled_item, After-plain_item}
 
 labelled : (c : After-labelled_item) → c.labelled_item.result ≡ told (leading_item c.args.text.now)
 labelled c =
-    c.labelled_item.ensures ∙ ap (λ t. told (labelled_item t)) (take_rest c.args.text.now 1) ∙ labelled-leading_item c.args.text.now (sym c.if-begins_with.ensures)
+    c.labelled_item.ensures ∙ ap (λ t. told (labelled_item t)) (take_rest c.args.text.now 1)
+    ∙ labelled-leading_item c.args.text.now (sym c.if-begins_with.ensures)
 
 plain : (c : After-plain_item) → c.plain_item.result ≡ told (leading_item c.args.text.now)
 plain c = c.plain_item.ensures ∙ plain-leading_item c.args.text.now (sym c.if-begins_with.ensures)

@@ -2,7 +2,8 @@ use Rattle.std.proofs.Common.{arith, rules, sym, ap, ◌∙◌}
 use Rattle.std.proofs.lemmas.List.Sorted.{answers_always}
 use Rattle.element_table.proofs.FaultSteps.{unless_fault-none, unless_fault-some}
 use Rattle.element_table.proofs.IsotopeFault.{isotope_fault-repeated, isotope_fault-full, isotope_fault-none}
-use Rattle.element_table.proofs.Rising.{IsGap, IsGap-none, IsGap-insert, IsGap-from_search, IsElement-insert, found_by_search, with_isotope-placed}
+use Rattle.element_table.proofs.Rising.{IsGap, IsGap-none, IsGap-insert, IsGap-from_search, IsElement-insert}
+use Rattle.element_table.proofs.Rising.{found_by_search, with_isotope-placed}
 use Rattle.element_table.proofs.element.Element.add.Goals as goal
 use Rattle.element_table.proofs.element.Element.add.Goals.{In-Err}
 use Rattle.element_table.specs.Elements.{ElementEntry, reference_place}
@@ -17,7 +18,8 @@ pub returns-in-Ok-clause-added : goal.returns-in-Ok-clause-added
 returns-in-Ok-clause-added c =
     let by_number = c.in-Ok.ensures.position (λ i. i.number) (answers_always _ _ _ (λ f a r g called. search rules)) in
     let found =
-    rw c.deref.ensures.value at (found_by_search c.deref.result.now c.args.isotope.number c.in-Ok.field-0 c.in-Ok.ensures.bound by_number) in
+    rw c.deref.ensures.value at
+    (found_by_search c.deref.result.now c.args.isotope.number c.in-Ok.field-0 c.in-Ok.ensures.bound by_number) in
     rw (← c.self.view_is)
     (unless_fault-some _ _ _ (isotope_fault-repeated _
     (entry c.self.inside) _ c.args.isotope c.if-self-valence.false found))

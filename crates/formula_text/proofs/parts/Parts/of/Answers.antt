@@ -5,9 +5,11 @@ use Rattle.std.proofs.lemmas.Bool.{lt-ltb, le-ltb}
 use Rattle.written_items.specs.declared.item.Item.{Item}
 use Rattle.formula_text.specs.declared.fault.PartsFault.TheVariants.{TooManyAtoms, TooManyElements}
 use Rattle.formula_text.specs.Formulas.{sum_of, parts_of, has_many_items, IsParts}
-use Rattle.formula_text.proofs.SumLimits.{parts_of-many_atoms, parts_of-many_of_one, parts_of-many_items, parts_of-within, parts_of-only, parts_of-SumsUp, sum_of-within}
+use Rattle.formula_text.proofs.SumLimits.{parts_of-many_atoms, parts_of-many_of_one, parts_of-many_items}
+use Rattle.formula_text.proofs.SumLimits.{parts_of-within, parts_of-only, parts_of-SumsUp, sum_of-within}
 use Rattle.formula_text.proofs.parts.Parts.of.Goals as goal
-use Rattle.formula_text.proofs.parts.Parts.of.Goals.{Then-has_many_atoms, After-drop-items, After-drop-items-then-len-gt-MAX_ITEMS, Else-len-gt-MAX_ITEMS}
+use Rattle.formula_text.proofs.parts.Parts.of.Goals.{Then-has_many_atoms, After-drop-items}
+use Rattle.formula_text.proofs.parts.Parts.of.Goals.{After-drop-items-then-len-gt-MAX_ITEMS, Else-len-gt-MAX_ITEMS}
 
 many_atoms : (c : Then-has_many_atoms) → parts_of c.args.parts.now ≡ Err TooManyAtoms
 many_atoms c = parts_of-many_atoms c.args.parts.now (sym c.if-has_many_atoms.ensures)
