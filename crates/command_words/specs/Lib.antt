@@ -4,4 +4,5 @@ pub mod Options
 pub mod Uses
 pub mod Requests
 pub mod WordReading
+pub mod WordsFaults
 pub mod ClapCommands

@@ -1,5 +1,6 @@
 -- The table of options, and the commands with the options that each has. A word is the list of its bytes.
-use Rattle.std.specs.Prelude.{ℕ, List, [], ◌∷◌, codes, find, Option, None}
+use Rattle.std.specs.Prelude.{ℕ, ◌==◌, List, [], ◌∷◌, codes, find, Option, None}
+use Rattle.std.specs.Option.{option_map_or}
 use Rattle.std.specs.Str.{bytes_eq}
 use Rattle.fixed_decimal.specs.Decimal.{decimal_within}
 use Rattle.mass_scaling.specs.declared.limits.TheConstants.{MAX_MZ, MAX_DA}
@@ -83,3 +84,7 @@ options Envelope = Table ∷ Formula ∷ Coverage ∷ []
 abbrev pub required_options : CommandName → List OptionName
 required_options Decompose = Table ∷ Mass ∷ Da ∷ Alphabet ∷ []
 required_options Envelope = Table ∷ Formula ∷ Coverage ∷ []
+
+-- the option of this number as it is written, and nothing for a number that the table hasn't
+abbrev pub option_word : ℕ → Bytes
+option_word n = option_map_or word (find (λ option. number option == n) option_table) []

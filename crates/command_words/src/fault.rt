@@ -1,8 +1,10 @@
 //! Why words are no request.
-ghost use Rattle.std.specs.Prelude.{◌≡◌};
+ghost use Rattle.std.specs.Prelude.{◌≡◌, IfOk, string_bytes};
+ghost use Rattle.command_words.specs.WordsFaults.{words_fault_words};
 
+use crate::options::option_name;
 use clap::error::ErrorKind;
-use std::alloc::AllocError;
+use std::alloc::{AllocError, Global};
 use thiserror::Error;
 
 /// Why the words of the command line are no request: the first of these causes.
@@ -19,6 +21,22 @@ pub enum WordsFault {
     /// Want of memory.
     #[error("memory")]
     Memory,
+}
+
+impl WordsFault {
+    /// What a note says of the fault, behind `isoform: `. Want of memory has the words `memory`.
+    pub fn words(&self, alloc: Global) -> Result<String, AllocError>
+        ensures { IfOk result (λ words. string_bytes words ≡ words_fault_words self.now) }
+    {
+        match self {
+            WordsFault::Words => String::from_str(alloc, "words"),
+            WordsFault::Value { option } => {
+                let option = option_name(*option);
+                format!(in alloc; "value: {option}")
+            }
+            WordsFault::Memory => String::from_str(alloc, "memory"),
+        }
+    }
 }
 
 impl From<AllocError> for WordsFault {

@@ -1,7 +1,6 @@
 //! The table of options.
-ghost use Rattle.std.specs.Prelude.{◌≡◌, ◌≤◌};
-ghost use Rattle.command_words.specs.Options.{name, word, kind, number};
-ghost use Rattle.command_words.specs.declared.options.OptionName.{OptionName};
+ghost use Rattle.std.specs.Prelude.{◌≡◌, ◌==◌, find};
+ghost use Rattle.command_words.specs.Options.{name, word, kind, number, option_table, option_word};
 
 use mass_scaling::{MAX_DA, MAX_MZ};
 
@@ -124,11 +123,22 @@ impl OptionName {
     }
 }
 
-/// The option of this number as it is written, as `--mass` for 2.
-pub fn option_name(option: u32) -> &'static str
-    requires from_1 { 1 ≤ option }
-    requires in_table { option ≤ OPTION_COUNT }
-    ensures { (of : OptionName) → number of ≡ option → result.now ≡ word of }
+/// The option of this number, if the table has it.
+fn option_of(place: u32) -> Option<OptionName>
+    ensures { result ≡ find (λ option. number option == place) option_table }
 {
-    OPTIONS[option as usize - 1].row().word
+    OPTIONS
+        .iter()
+        .copied()
+        .find(|option| option.number() == place)
+}
+
+/// The option of this number as it is written, as `--mass` for 2, and nothing for a number that the table hasn't.
+pub fn option_name(option: u32) -> &'static str
+    ensures { result.now ≡ option_word option }
+{
+    match option_of(option) {
+        Some(of) => of.row().word,
+        None => "",
+    }
 }

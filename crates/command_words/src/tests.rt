@@ -264,6 +264,15 @@ fn options_are_named_as_they_are_written(rt: HostRuntime) {
             assert!(rt; option_name(place as u32 + 1) == *name);
         }
     }
+    assert!(rt; option_name(0).is_empty() && option_name(OPTION_COUNT + 1).is_empty());
+    let notes = [
+        (WordsFault::Words, "words"),
+        (WordsFault::Value { option: 2 }, "value: --mass"),
+        (WordsFault::Memory, "memory"),
+    ];
+    for (fault, note) in notes {
+        assert!(rt; fault.words(rt.alloc()).expect(&rt, "a text").as_str() == note);
+    }
     let word = Word::of("t.csv".to_string(rt.alloc()).expect(&rt, "a text"));
     let copy = word.clone().expect(&rt, "a copy");
     assert!(rt; copy.text().as_str() == "t.csv");

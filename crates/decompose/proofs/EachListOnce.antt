@@ -20,7 +20,7 @@ contains_later : {X : Type 0} (y : X) (xs : List X) (x : X) → Contains xs x �
 contains_later y xs x h = (suc h.0, omega arith, h.2)
 
 -- a filter keeps an element that passes
-contains_kept : {X : Type 0} (p : X → Bool) (xs : List X) (x : X) → p x ≡ true → Contains xs x →
+pub contains_kept : {X : Type 0} (p : X → Bool) (xs : List X) (x : X) → p x ≡ true → Contains xs x →
     Contains (filter p xs) x
 contains_kept p [] x t h = absurd (omega arith)
 contains_kept p (y ∷ ys) x t (zero, within, same) =

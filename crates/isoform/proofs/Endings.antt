@@ -1,93 +1,218 @@
 -- What a run shows at the outside, ending by ending.
-use Rattle.std.proofs.Common.{◌≡◌, ℕ, ◌≤◌, List, [], ◌∷◌, ◌++◌, length, take, refl, sym, ap, ◌∙◌, subst, arith, inl, inr}
-use Rattle.std.specs.Prelude.{Option, Result, Ok, Err, IfOk, MatchBool, ⊤}
-use Rattle.std.proofs.lemmas.List.{take_all, append-nil}
+use Rattle.std.proofs.Common.{◌≡◌, ℕ, ◌≤◌, List, [], ◌∷◌, ◌++◌, length, take, ◌+◌, refl, sym, ap, ◌∙◌, subst, arith, inl, inr}
+use Rattle.std.specs.Prelude.{Bool, true, false, Option, Some, None, Result, Ok, Err, IsOkAnd, IfSome, MatchBool, ⊤}
+use Rattle.std.proofs.lemmas.List.{append-nil}
+use Rattle.std.specs.Io.KnownBytes.{append_known}
+use Rattle.outside_ports.specs.Faults.{Rose}
 use Rattle.outside_ports.specs.Files.{Files}
-use Rattle.reader_answers.specs.Answers.{◌>>=◌}
-use Rattle.isoform.specs.Answering.{or_refusal, refusal_of}
-use Rattle.isoform.specs.InputFaults.{is_memory}
-use Rattle.isoform.specs.Words.{Request, request_of, table_of}
-use Rattle.isoform.specs.Answer.{answer, answer_of_request, answer_of_bytes, bytes_within}
-use Rattle.isoform.specs.Printed.{Writes, WritesFor}
-use Rattle.isoform.specs.Run.{Ending, OfFiles, Outside, Shows, IsTold, IsPut, file_names, table_of_request}
+use Rattle.command_words.specs.WordReading.{request_of}
+use Rattle.command_words.specs.WordReading as words
+use Rattle.command_words.specs.declared.request.Request.{Request}
+use Rattle.command_words.specs.declared.fault.WordsFault.{WordsFault}
+use Rattle.command_words.specs.declared.fault.WordsFault.TheVariants as words_fault
+use Rattle.isoform.specs.Answer.{Outcome, Formulas, Cover, IsReport, answer, answer_of_request, cover_report, formulas_report, file_names, names_if, names_of_request}
+use Rattle.isoform.specs.Asked.{Asked, Names, asked_as, asks_none, asks_next, result_as, ◌and_then◌}
+use Rattle.isoform.specs.Claims.{Holds}
+use Rattle.isoform.specs.Refusals.{of_words_fault, or_fault_as, refusal_of}
+use Rattle.isoform.specs.Outside.{AnswersAs, AsksNames, Ending, EndsAs, IsPut, IsTold, NoWriteFault, Outside, Puts, Reads, ReceivesAll, ReceivesSome, ReceivesSomeOf, Shows, outside}
 use Rattle.isoform.specs.declared.input_fault.InputFault.{InputFault}
 use Rattle.isoform.specs.declared.input_fault.InputFault.TheVariants as input
-use Rattle.isoform.specs.declared.input_fault.InputFile.TheVariants as file
 use Rattle.isoform.specs.declared.refusal.Refusal.{Refusal}
 use Rattle.isoform.specs.declared.refusal.Refusal.TheVariants.{Input, ReadFault, WriteFault, Memory}
+use Rattle.isoform.proofs.PartLaws.{all_names}
 
--- what was given is refused: all names were asked, and nothing was written
-pub input_shows : (answer : Result (List ℕ) Refusal) (names : List (List ℕ)) (before after : Outside) (fault : InputFault) → answer ≡ Err (Input fault) → after.asked ≡ before.asked ++ names → after.shelf_faults ≡ before.shelf_faults → after.received ≡ before.received → after.out_faults ≡ before.out_faults → Shows answer names before after (Err (Input fault))
-input_shows answer names before after fault is asks reads receives writes =
-    record { cause = is; reads = reads; writes = writes; asks = asks; receives = receives }
+-- each outcome has a report
+some_report : (outcome : Outcome) → (report : List ℕ) × IsReport outcome report
+some_report (Formulas query) = (formulas_report query, refl)
+some_report (Cover query) = (cover_report query, refl)
 
--- memory ran out before anything was written
-pub memory_shows : (answer : Result (List ℕ) Refusal) (names : List (List ℕ)) (before after : Outside) (asked : ℕ) → after.asked ≡ before.asked ++ take asked names → before.shelf_faults ≤ after.shelf_faults → after.received ≡ before.received → after.out_faults ≡ before.out_faults → Shows answer names before after (Err Memory)
-memory_shows answer names before after asked asks reads receives writes =
-    record { cause = tt; reads = reads; writes = writes; asks = (asked, asks); receives = receives }
+-- nothing more was received
+append_known-nil : (known : Option (List ℕ)) → known ≡ append_known known []
+append_known-nil None = refl
+append_known-nil (Some bytes) = ap Some (sym (append-nil bytes))
 
--- memory ran out after all names were asked
-pub late_memory_shows : (answer : Result (List ℕ) Refusal) (names : List (List ℕ)) (before after : Outside) → after.asked ≡ before.asked ++ names → before.shelf_faults ≤ after.shelf_faults → after.received ≡ before.received → after.out_faults ≡ before.out_faults → Shows answer names before after (Err Memory)
-late_memory_shows answer names before after asks reads receives writes =
-    memory_shows answer names before after (length names) (asks ∙ ap (λ n. before.asked ++ n) (sym (take_all (length names) names (omega arith)))) reads receives writes
+nothing_received : (result : Result Outcome Refusal) (received : Option (List ℕ)) →
+    ReceivesSomeOf result received received
+nothing_received (Ok outcome) received =
+    let some = some_report outcome in
+    record { report = some.0; is_report = some.1; taken = 0; received = append_known-nil received }
+nothing_received (Err refusal) received = refl
 
--- the fault of a part of the work, which may be want of memory, is the refusal of the whole
-pub part_shows : (answer : Result (List ℕ) Refusal) (part : Result (List ℕ) InputFault) (names : List (List ℕ))
-    (before after : Outside) (fault : InputFault) → MatchBool (is_memory fault) ⊤ (part ≡ Err fault) →
-    (part ≡ Err fault → answer ≡ Err (refusal_of fault)) → after.asked ≡ before.asked ++ names →
-    after.shelf_faults ≡ before.shelf_faults → after.received ≡ before.received → after.out_faults ≡ before.out_faults →
-    Shows answer names before after (Err (refusal_of fault))
-part_shows answer part names before after input.Memory refused whole asks reads receives writes =
-    late_memory_shows answer names before after asks (omega (arith, reads)) receives writes
-part_shows answer part names before after fault refused whole asks reads receives writes =
-    input_shows answer names before after fault (whole refused) asks reads receives writes
+-- what was read is refused: nothing was written
+pub unread_shows : {X : Type 0} (names before after : Names) (faults_before faults_after : ℕ) (received : Option (List ℕ))
+    (out_faults : ℕ) (refusal : Refusal) → Reads {X = X} names before after faults_before faults_after (Err refusal) →
+    Shows names (outside before faults_before received out_faults) (outside after faults_after received out_faults)
+    (Err refusal)
+unread_shows names before after fb fa received out_faults (Input fault) reads =
+    record { asks = reads.asks; reads = reads.counts; writes = refl; receives = refl }
+unread_shows names before after fb fa received out_faults (ReadFault name) reads =
+    record { asks = reads.asks; reads = reads.counts; writes = refl; receives = refl }
+unread_shows names before after fb fa received out_faults Memory reads =
+    record { asks = reads.asks; reads = reads.counts; writes = refl; receives = tt }
+unread_shows names before after fb fa received out_faults WriteFault reads = absurd reads.writes_nothing
 
--- the answer where the file was fetched
-pub answer-fetched : (request : Request) (files : Files) (bytes : List ℕ) (part : Result (List ℕ) InputFault) → bytes_within file.Table 16777216 (files (table_of request)) ≡ Ok bytes → answer_of_bytes request bytes ≡ part → answer_of_request request files ≡ or_refusal part
-answer-fetched request files bytes part fetched is =
-    ap (λ (r : Result (List ℕ) Refusal). r >>= λ b. or_refusal (answer_of_bytes request b)) fetched ∙ ap or_refusal is
+-- the same, as the answer says it
+pub unread_ends : {X A : Type 0} (outcome : A → Outcome) (view : X → A) (expected : Asked A)
+    (before after : Names) (faults_before faults_after : ℕ) (received : Option (List ℕ)) (out_faults : ℕ)
+    (refusal : Refusal) → NoWriteFault {X = X} (Err refusal) → AnswersAs view expected before after (Err refusal) →
+    EndsAs (asked_as outcome expected) (outside before faults_before received out_faults)
+    (outside after faults_after received out_faults) (Err refusal)
+unread_ends outcome view expected before after fb fa received out_faults (Input fault) other answers =
+    (ap (result_as outcome) answers.0, answers.1)
+unread_ends outcome view expected before after fb fa received out_faults (ReadFault name) other answers = answers
+unread_ends outcome view expected before after fb fa received out_faults Memory other answers =
+    (nothing_received (result_as outcome expected.result) received, answers)
+unread_ends outcome view expected before after fb fa received out_faults WriteFault other answers = absurd other
+
+-- what was read was served: the report was put, or some of it
+pub written_shows : {X : Type 0} (names before after : Names) (faults_before faults_after : ℕ) (x : X) (text : List ℕ)
+    (received_before received_after : Option (List ℕ)) (out_before out_after : ℕ) (ending : Ending) →
+    Reads {X = X} names before after faults_before faults_after (Ok x) →
+    Puts text received_before received_after out_before out_after ending →
+    Shows names (outside before faults_before received_before out_before)
+    (outside after faults_after received_after out_after) ending
+written_shows names before after fb fa x text rb ra ob oa (Ok done) reads puts =
+    record { asks = reads.asks; reads = reads.counts; writes = puts.1; receives = tt }
+written_shows names before after fb fa x text rb ra ob oa (Err WriteFault) reads puts = record {
+  asks = all_names names before after reads.asks;
+  reads = reads.counts;
+  writes = (puts.1, puts.2);
+  receives = tt;
+}
+written_shows names before after fb fa x text rb ra ob oa (Err Memory) reads puts = record {
+  asks = all_names names before after reads.asks;
+  reads = omega (arith, reads.counts);
+  writes = puts.1;
+  receives = tt;
+}
+written_shows names before after fb fa x text rb ra ob oa (Err (Input fault)) reads puts = absurd puts
+written_shows names before after fb fa x text rb ra ob oa (Err (ReadFault name)) reads puts = absurd puts
+
+some_received : (outcome : Outcome) (text : List ℕ) (before after : Option (List ℕ)) → IsReport outcome text →
+    ((taken : ℕ) × (after ≡ append_known before (take taken text))) → ReceivesSome outcome before after
+some_received outcome text before after is taken =
+    record { report = text; is_report = is; taken = taken.0; received = taken.1 }
+
+-- the same, as the answer says it
+pub written_ends : {X A : Type 0} (outcome : A → Outcome) (view : X → A) (expected : Asked A) (before after : Names)
+    (faults_before faults_after : ℕ) (x : X) (text : List ℕ)
+    (received_before received_after : Option (List ℕ)) (out_before out_after : ℕ) (ending : Ending) →
+    AnswersAs view expected before after (Ok x) → Holds (outcome (view x)) → IsReport (outcome (view x)) text →
+    Puts text received_before received_after out_before out_after ending →
+    EndsAs (asked_as outcome expected) (outside before faults_before received_before out_before)
+    (outside after faults_after received_after out_after) ending
+written_ends outcome view expected before after fb fa x text rb ra ob oa (Ok done) answers holds is puts =
+    (rw answers.0 (record { report = text; is_report = is; received = puts.0 }, holds), answers.1)
+written_ends outcome view expected before after fb fa x text rb ra ob oa (Err WriteFault) answers holds is puts =
+    (rw answers.0 (some_received (outcome (view x)) text rb ra is puts.0), answers.1)
+written_ends outcome view expected before after fb fa x text rb ra ob oa (Err Memory) answers holds is puts = (
+  rw answers.0 (some_received (outcome (view x)) text rb ra is puts.0),
+  all_names expected.names before after answers.1,
+)
+written_ends outcome view expected before after fb fa x text rb ra ob oa (Err (Input fault)) answers holds is puts =
+    absurd puts
+written_ends outcome view expected before after fb fa x text rb ra ob oa (Err (ReadFault name)) answers holds is puts =
+    absurd puts
 
 -- what a request shows, its words show
-pub words_show : (words : List (List ℕ)) (files : Files) (request : Request) (before after : Outside) (ending : Ending) → Ok request ≡ request_of words → Shows (answer_of_request request files) (table_of request ∷ []) before after ending → Shows (answer words files) (file_names words) before after ending
+pub words_show : (given : Names) (request : Request) (before after : Outside) (ending : Ending) →
+    request_of given ≡ Ok request → Shows (names_of_request request) before after ending →
+    Shows (file_names given) before after ending
+words_show given request before after ending is shows =
+    subst (λ (r : Result Request WordsFault). Shows (names_if r) before after ending) (sym is) shows
+
+pub words_end : (given : Names) (files : Files) (request : Request) (before after : Outside) (ending : Ending) →
+    request_of given ≡ Ok request → EndsAs (answer_of_request request files) before after ending →
+    EndsAs (answer given files) before after ending
 unfolding answer
-words_show words files request before after ending is shows =
-    subst (λ (r : Result Request InputFault). Shows (or_refusal r >>= λ q. answer_of_request q files) (table_of_request r) before after ending) is shows
+words_end given files request before after ending is ends =
+    subst (λ (r : Result Request WordsFault).
+    EndsAs (asks_none (or_fault_as of_words_fault r) and_then λ q. answer_of_request q files) before after ending)
+    (sym is) ends
 
--- what was written for a request was written for the words that ask for it
-pub writes_for : (ending : Ending) (held : Option Files) (asked : Result Request InputFault) (request : Request) (before after : Option (List ℕ)) → Ok request ≡ asked → IfOk ending (λ _. OfFiles held (λ files. Writes request files before after)) → IfOk ending (λ _. OfFiles held (λ files. WritesFor asked files before after))
-writes_for ending held asked request before after is given =
-    subst (λ (r : Result Request InputFault). IfOk ending (λ _. OfFiles held (λ files. WritesFor r files before after))) is given
+-- words that are refused ask for no file
+pub refused_words_show : (names : Names) (before : Outside) (fault : InputFault) →
+    Shows names before before (Err (refusal_of fault))
+refused_words_show names before input.Memory = record {
+  asks = (0, sym (append-nil before.asked));
+  reads = omega arith;
+  writes = refl;
+  receives = tt;
+}
+refused_words_show names before fault =
+    record { asks = (0, sym (append-nil before.asked)); reads = refl; writes = refl; receives = refl }
 
--- what was given is refused before any name is asked
-refusal_shows : (before : Outside) (fault : InputFault) →
-    Shows (Err (refusal_of fault)) [] before before (Err (refusal_of fault))
-refusal_shows before input.Memory =
-    memory_shows (Err Memory) [] before before 0 (sym (append-nil before.asked)) (omega arith) refl refl
-refusal_shows before fault =
-    input_shows (Err (Input fault)) [] before before fault refl (sym (append-nil before.asked)) refl refl refl
-
--- words that are refused show that
-pub refused_words_show : (words : List (List ℕ)) (files : Files) (before : Outside) (fault : InputFault) → Err fault ≡ request_of words → Shows (answer words files) (file_names words) before before (Err (refusal_of fault))
+pub refused_words_end : (given : Names) (files : Files) (before : Outside) (fault : WordsFault) →
+    MatchBool (words.is_memory fault) ⊤ (request_of given ≡ Err fault) →
+    EndsAs (answer given files) before before (Err (refusal_of (of_words_fault fault)))
 unfolding answer
-refused_words_show words files before fault is =
-    subst (λ (r : Result Request InputFault). Shows (or_refusal r >>= λ q. answer_of_request q files) (table_of_request r) before before (Err (refusal_of fault))) is
-    (refusal_shows before fault)
+refused_words_end given files before words_fault.Memory refused =
+    (nothing_received (answer given files).result before.received, (0, sym (append-nil before.asked)))
+refused_words_end given files before fault refused =
+    subst (λ (r : Result Request WordsFault).
+    EndsAs (asks_none (or_fault_as of_words_fault r) and_then λ q. answer_of_request q files) before before
+    (Err (refusal_of (of_words_fault fault))))
+    (sym refused) (refl, sym (append-nil before.asked))
+
+-- memory for the note ran out behind another refusal
+memory_behind : (names : Names) (before after : Outside) (came : Refusal) → (came ≡ WriteFault → ⊥) →
+    Shows names before after (Err came) → Shows names before after (Err Memory)
+memory_behind names before after WriteFault other shows = absurd (other refl)
+memory_behind names before after Memory other shows = shows
+memory_behind names before after (ReadFault name) other shows = record {
+  asks = (shows.asks.0 + 1, shows.asks.2);
+  reads = shows.reads.1;
+  writes = shows.writes;
+  receives = tt;
+}
+memory_behind names before after (Input fault) other shows = record {
+  asks = shows.asks;
+  reads = omega (arith, shows.reads);
+  writes = shows.writes;
+  receives = tt;
+}
+
+-- what was told is shown
+pub told_shows : (names : Names) (before after : Outside) (came told : Refusal) → IsTold came told →
+    Shows names before after (Err came) → Shows names before after (Err told)
+told_shows names before after came told (inl same) shows =
+    subst (λ (r : Refusal). Shows names before after (Err r)) (sym same) shows
+told_shows names before after came told (inr memory) shows =
+    subst (λ (r : Refusal). Shows names before after (Err r)) (sym memory.0)
+    (memory_behind names before after came memory.1 shows)
+
+received_nothing : (result : Result Outcome Refusal) (before after : Option (List ℕ)) → after ≡ before →
+    ReceivesSomeOf result before after
+received_nothing result before after is =
+    subst (λ (r : Option (List ℕ)). ReceivesSomeOf result before r) (sym is) (nothing_received result before)
+
+memory_ends : (answered : Asked Outcome) (names : Names) (before after : Outside) (came : Refusal) →
+    (came ≡ WriteFault → ⊥) → Shows names before after (Err came) → EndsAs answered before after (Err came) →
+    EndsAs answered before after (Err Memory)
+memory_ends answered names before after WriteFault other shows ends = absurd (other refl)
+memory_ends answered names before after Memory other shows ends = ends
+memory_ends answered names before after (ReadFault name) other shows ends =
+    (received_nothing answered.result before.received after.received shows.receives, ends)
+memory_ends answered names before after (Input fault) other shows ends = (
+  received_nothing answered.result before.received after.received shows.receives,
+  all_names answered.names before.asked after.asked ends.1,
+)
+
+-- the same, as the answer says it
+pub told_ends : (answered : Asked Outcome) (names : Names) (before after : Outside) (came told : Refusal) →
+    IsTold came told → Shows names before after (Err came) → EndsAs answered before after (Err came) →
+    EndsAs answered before after (Err told)
+told_ends answered names before after came told (inl same) shows ends =
+    subst (λ (r : Refusal). EndsAs answered before after (Err r)) (sym same) ends
+told_ends answered names before after came told (inr memory) shows ends =
+    subst (λ (r : Refusal). EndsAs answered before after (Err r)) (sym memory.0)
+    (memory_ends answered names before after came memory.1 shows ends)
 
 -- a note was put, under other names of the same values
-pub put_as : {M : Type 0} (written : M → Option (List ℕ)) (faults : M → ℕ) (before middle after : M) (told note : List ℕ) → after ≡ middle → told ≡ note → IsPut told (written before) (faults before) (written middle) (faults middle) → IsPut note (written before) (faults before) (written after) (faults after)
+pub put_as : {M : Type 0} (written : M → Option (List ℕ)) (faults : M → ℕ) (before middle after : M)
+    (told note : List ℕ) → after ≡ middle → told ≡ note →
+    IsPut told (written before) (faults before) (written middle) (faults middle) →
+    IsPut note (written before) (faults before) (written after) (faults after)
 put_as written faults before middle after told note same is put =
     subst (λ (n : List ℕ). IsPut n (written before) (faults before) (written after) (faults after)) is
     (subst (λ m. IsPut told (written before) (faults before) (written m) (faults m)) (sym same) put)
-
--- memory for the note ran out behind another refusal
-memory_behind : (answer : Result (List ℕ) Refusal) (names : List (List ℕ)) (before after : Outside) (came : Refusal) → (came ≡ WriteFault → ⊥) → Shows answer names before after (Err came) → Shows answer names before after (Err Memory)
-memory_behind answer names before after Memory other shows = shows
-memory_behind answer names before after WriteFault other shows = absurd (other refl)
-memory_behind answer names before after (ReadFault which) other shows = late_memory_shows answer names before after shows.asks shows.reads shows.receives shows.writes
-memory_behind answer names before after (Input fault) other shows = late_memory_shows answer names before after shows.asks (omega (arith, shows.reads)) shows.receives shows.writes
-
--- what was told is shown
-pub told_shows : (answer : Result (List ℕ) Refusal) (names : List (List ℕ)) (before after : Outside) (came told : Refusal) → IsTold came told → Shows answer names before after (Err came) → Shows answer names before after (Err told)
-told_shows answer names before after came told (inl same) shows = subst (λ (r : Refusal). Shows answer names before after (Err r)) (sym same) shows
-told_shows answer names before after came told (inr memory) shows =
-    subst (λ (r : Refusal). Shows answer names before after (Err r)) (sym memory.0) (memory_behind answer names before after came memory.1 shows)

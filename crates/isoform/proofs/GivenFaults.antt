@@ -2,8 +2,7 @@
 use Rattle.std.proofs.Common.{◌≡◌, Bool, true, false, refl, ap}
 use Rattle.std.specs.Prelude.{Result, Err, MatchBool, ⊤}
 use Rattle.reader_answers.specs.Answers.{◌>>=◌}
-use Rattle.isoform.specs.Answering.{or_fault_as}
-use Rattle.isoform.specs.InputFaults.{is_memory}
+use Rattle.isoform.specs.Refusals.{or_fault_as, is_memory}
 use Rattle.isoform.specs.declared.input_fault.InputFault.{InputFault}
 use Rattle.isoform.specs.declared.input_fault.InputFault.TheVariants.{Memory}
 

@@ -1,7 +1,11 @@
-pub mod ToldFiles
+pub mod PartLaws
 pub mod Endings
 pub mod FormulaItems
 pub mod FormulaLines
-pub mod ReportLines
 pub mod AlphabetMasses
+pub mod CoverQueries
+pub mod Puts
+pub mod WindowFormulas
+pub mod PeakLists
+pub mod PutLines
 pub mod GivenFaults

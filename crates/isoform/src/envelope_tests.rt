@@ -310,3 +310,44 @@ fn other_words_ask_for_no_envelope(rt: HostRuntime) -> Result<(), Fail> {
     }
     Ok(())
 }
+
+#[test]
+fn each_put_and_each_fetch_of_an_envelope_may_fail(rt: HostRuntime) -> Result<(), Fail> {
+    let alloc = rt.alloc();
+    let words = envelope_words(alloc, "X2", "0.75")?;
+    let report =
+        b"envelope X2\ncoverage 750000000000000000\nsize 2\nbound 2\nthreshold 125000000000000000\nisotopologue [10X][11X] 21.000000000000 500000000000000000 500000000000000000\nisotopologue [11X]2 22.000000000000 250000000000000000 250000000000000000\n";
+    // The number of a put, how many bytes it takes, and how many were received by then.
+    let cases = [
+        (1, 0, 0),
+        (1, 11, 11),
+        (2, 3, 15),
+        (3, 6, 46),
+        (4, 0, 47),
+        (5, 9, 64),
+        (6, 20, 104),
+        (7, 0, 162),
+        (7, 72, 234),
+    ];
+    for (call, taken, received) in cases {
+        let mut shelf = shelf_with(alloc, EQUAL)?;
+        let mut out = MemorySink::new(alloc, 4096)?;
+        out.fail_at(call, taken)?;
+        let mut notes = MemorySink::new(alloc, 4096)?;
+        let status = run(alloc, &words, &mut shelf, &mut out, &mut notes);
+        assert!(rt; status == 8, "put {call}");
+        assert!(rt; out.bytes() == &report[..received], "put {call}");
+        assert!(rt;
+            notes.bytes() == b"isoform: write fault\n".as_slice(),
+            "put {call}"
+        );
+    }
+    let mut shelf = shelf_with(alloc, EQUAL)?;
+    shelf.fail_at(1)?;
+    let mut out = MemorySink::new(alloc, 4096)?;
+    let mut notes = MemorySink::new(alloc, 4096)?;
+    assert_eq!(rt; run(alloc, &words, &mut shelf, &mut out, &mut notes), 7);
+    assert!(rt; out.bytes().is_empty());
+    assert!(rt; notes.bytes() == b"isoform: read fault: t.csv\n".as_slice());
+    Ok(())
+}

@@ -1,61 +1,27 @@
 //! What is wrong with what the program was given: its words, and what they name.
-ghost use Rattle.std.specs.Prelude.{◌≡◌, ◌++◌, ◌∷◌, [], IfOk, codes, string_bytes};
-ghost use Rattle.formula_text.specs.PrintedText.{printed};
-ghost use Rattle.isoform.specs.Notes.{note_of, status_of_fault, option_text};
-ghost use Rattle.isoform.specs.InputFaults.{of_table_fault, of_alphabet_fault, of_formula_fault};
+ghost use Rattle.std.specs.Prelude.{◌≡◌, ◌++◌, IfOk};
+ghost use Rattle.isoform.specs.Notes.{fault_message, status_of_fault};
+ghost use Rattle.isoform.specs.Refusals.{of_words_fault, of_table_fault, of_alphabet_fault, of_formula_fault};
 ghost use Rattle.isoform.specs.declared.input_fault.InputFault.TheVariants.{Memory};
-ghost use Rattle.isoform.specs.declared.refusal.Refusal.TheVariants.{Input};
 
 use alphabet_text::AlphabetFault;
+use command_words::{Word, WordsFault};
 use element_table::TableFault;
 use formula_text::{Formula, FormulaFault};
 use std::alloc::{AllocError, Global};
 
-/// An option whose value has a range.
-#[derive(Clone, Copy, Debug, PartialEq, Eq)]
-pub enum OptionName {
-    /// `--mass`
-    Mass,
-    /// `--da`
-    Da,
-    /// `--coverage`
-    Coverage,
-}
-
-impl OptionName {
-    /// The option as it stands among the words.
-    pub fn text(self) -> &'static str
-        ensures { result.now ≡ option_text self }
-    {
-        match self {
-            OptionName::Mass => "--mass",
-            OptionName::Da => "--da",
-            OptionName::Coverage => "--coverage",
-        }
-    }
-}
-
-/// A file that the words name.
-#[derive(Clone, Copy, Debug, PartialEq, Eq)]
-pub enum InputFile {
-    /// The file of `--table`.
-    Table,
-}
-
-/// Why what the program was given is refused.
+/// Why what the program was given is refused. A fault of a text or a file is never want of memory.
 #[derive(Debug, Drop)]
 pub enum InputFault {
-    /// The words are no request.
-    Words,
-    /// The value of an option is outside its range.
-    Value(OptionName),
-    /// A file is longer than its limit.
-    FileLimit(InputFile),
-    /// The table's bytes have a fault, which is never want of memory.
+    /// The words are no request, or the value of an option is outside its range.
+    Words(WordsFault),
+    /// The file of this name is longer than its limit.
+    FileLimit(Word),
+    /// The table's bytes have a fault.
     Table(TableFault),
-    /// The text of the alphabet has a fault, which is never want of memory.
+    /// The text of the alphabet has a fault.
     Alphabet(AlphabetFault),
-    /// The text of the formula has a fault, which is never want of memory.
+    /// The text of the formula has a fault.
     Formula(FormulaFault),
     /// The peak has more than 1,048,576 candidates.
     CandidateLimit { peak: u64 },
@@ -70,6 +36,17 @@ impl From<AllocError> for InputFault {
 
     fn from(_: AllocError) -> InputFault {
         InputFault::Memory
+    }
+}
+
+impl From<WordsFault> for InputFault {
+    ghost from_gives = { λ e fault. fault ≡ of_words_fault e };
+
+    fn from(fault: WordsFault) -> InputFault {
+        match fault {
+            WordsFault::Memory => InputFault::Memory,
+            fault => InputFault::Words(fault),
+        }
     }
 }
 
@@ -112,7 +89,7 @@ impl InputFault {
         ensures { result ≡ status_of_fault self.now }
     {
         match self {
-            InputFault::Words | InputFault::Value(_) => 2,
+            InputFault::Words(_) => 2,
             InputFault::Table(_) => 3,
             InputFault::Alphabet(_) | InputFault::Formula(_) => 5,
             InputFault::FileLimit(_) | InputFault::CandidateLimit { .. } | InputFault::Wide(_) => 6,
@@ -120,47 +97,39 @@ impl InputFault {
         }
     }
 
-    /// The note, one line. `table` is the name of the table file.
-    pub fn note(&self, alloc: Global, table: &str) -> Result<Vec<u8>, AllocError>
-        ensures { IfOk result (λ note. note.items ≡ note_of table.now (Input self.now)) }
+    /// What a note says of the fault.
+    pub fn message(&self, alloc: Global) -> Result<Vec<u8>, AllocError>
+        ensures { IfOk result (λ message. message.items ≡ fault_message self.now) }
     {
-        let note = match self {
-            InputFault::Words => String::from_str(alloc, "isoform: words\n"),
-            InputFault::Value(option) => {
-                let option = option.text();
-                format!(in alloc; "isoform: value: {option}\n")
-            }
-            InputFault::FileLimit(InputFile::Table) => {
-                format!(in alloc; "isoform: limit: file {table}\n")
+        match self {
+            InputFault::Words(fault) => Ok(fault.words(alloc)?.into_bytes()),
+            InputFault::FileLimit(name) => {
+                labelled(alloc, b"limit: file ", name.text().as_bytes())
             }
             InputFault::Table(fault) => {
-                let words = fault.words(alloc)?;
-                format!(in alloc; "isoform: table: {words}\n")
+                labelled(alloc, b"table: ", fault.words(alloc)?.as_bytes())
             }
             InputFault::Alphabet(fault) => {
-                let words = fault.words(alloc)?;
-                format!(in alloc; "isoform: alphabet: {words}\n")
+                labelled(alloc, b"alphabet: ", fault.words(alloc)?.as_bytes())
             }
             InputFault::Formula(fault) => {
-                let words = fault.words(alloc)?;
-                format!(in alloc; "isoform: formula: {words}\n")
+                labelled(alloc, b"formula: ", fault.words(alloc)?.as_bytes())
             }
             InputFault::CandidateLimit { peak } => {
-                format!(in alloc; "isoform: limit: candidates of peak {peak}\n")
+                let message = format!(in alloc; "limit: candidates of peak {peak}")?;
+                Ok(message.into_bytes())
             }
-            InputFault::Wide(formula) => return wide_note(alloc, formula),
-            InputFault::Memory => String::from_str(alloc, "isoform: memory\n"),
-        }?;
-        Ok(note.into_bytes())
+            InputFault::Wide(formula) => labelled(alloc, b"limit: wide of ", &formula.print()?),
+            InputFault::Memory => Vec::from_slice(alloc, b"memory"),
+        }
     }
 }
 
-/// The note of a formula that has too many isotopologues.
-fn wide_note(alloc: Global, formula: &Formula) -> Result<Vec<u8>, AllocError>
-    ensures { IfOk result (λ note. note.items ≡ codes "isoform: limit: wide of " ++ printed formula.now ++ 10 ∷ []) }
+/// Words behind what they are about.
+pub fn labelled(alloc: Global, label: &[u8], words: &[u8]) -> Result<Vec<u8>, AllocError>
+    ensures { IfOk result (λ message. message.items ≡ label.now ++ words.now) }
 {
-    let mut note = Vec::from_slice(alloc, b"isoform: limit: wide of ")?;
-    note.extend_from_slice(&formula.print()?)?;
-    note.push(b'\n')?;
-    Ok(note)
+    let mut message = Vec::from_slice(alloc, label)?;
+    message.extend_from_slice(words)?;
+    Ok(message)
 }

@@ -1,54 +1,95 @@
-//! Isoform: the molecular formulas of accurate masses and the likeliest isotopologues of formulas, in whole
-//! numbers of stated units.
+//! Isoform: the molecular formulas of accurate masses and the isotopologues of formulas that cover most of their
+//! probability, in whole numbers of stated units.
 //!
-//! [`run`](run::run) is the program: from its words and a shelf of files to what an output and notes
-//! receive, and a status. `main` only hands it the process's own.
+//! [`run`](run::run) is the program: from its words and a shelf of files to what an output and notes receive, and a
+//! status. `main` only hands it the process's own.
 //!
-//! Contracts see words and reports as their bytes, and files and streams as `outside_ports` shows them. The
-//! program stands on `element_table` and `formula_text` for what it reads, on `decompose` for the formulas of
-//! a mass, on `cover_certificate` for the cover of a formula, on `fixed_decimal` and `itoa` for numbers, and
-//! on `outside_ports` for its devices. Nothing stands above it. It gives [`cover_of`] and its types out too.
+//! Contracts see words and reports as their bytes, and files and streams as `outside_ports` shows them. The program
+//! stands on `command_words` for its words, on `element_table`, `alphabet_text` and `formula_text` for what it reads,
+//! on `decompose` for the formulas of a mass, on `cover_certificate` for the cover of a formula, on `report_text` for
+//! lines, and on `outside_ports` for its devices. Nothing stands above it. It gives out [`request_of`] and
+//! [`cover_of`] with their types too.
 #![tactic(auto)]
 
-mod answer;
-mod candidates;
+mod decomposition;
 mod envelope;
 mod input_fault;
+mod inputs;
+mod output;
 mod refusal;
-mod report;
-mod request;
 mod run;
-mod words;
 
-use outside_ports::{FileShelf, StreamSink};
+use outside_ports::{FileShelf, Sink, StreamSink};
 
 #[cfg(test)]
 mod envelope_tests;
 #[cfg(test)]
 mod tests;
 
+ghost use Rattle.std.specs.Prelude.{◌≡◌, ◌≢◌, ◌⊎◌, drop};
+
+use crate::refusal::{MEMORY_NOTE, WRITE_FAULT_NOTE};
+pub use command_words::{Request, Word, WordsFault, request_of};
 pub use cover_certificate::{Cover, CoverFault, CoverMember, cover_of};
 pub use run::run;
 use std::alloc::AllocError;
+use std::env;
+use std::io::{self, BufWriter, Write};
 use std::process::ExitCode;
-use std::rt::Env;
-use std::{env, io};
+
+/// How many bytes of a report are gathered before they are written.
+const OUTPUT_BUFFER: usize = 65_536;
 
 fn main(rt: HostRuntime) -> ExitCode {
-    let alloc = rt.alloc();
-    // Words that are no text are no request, and neither are none.
-    let words = given_words(&rt).unwrap_or(Vec::new(alloc));
-    let mut out = StreamSink::new(rt.stdout());
     let mut notes = StreamSink::new(rt.stderr());
-    let mut shelf = FileShelf::new(alloc, rt);
-    ExitCode::from(run(alloc, &words, &mut shelf, &mut out, &mut notes))
+    let status = match serve_process(rt, &mut notes) {
+        Ok(status) => status,
+        Err(AllocError) => {
+            let _ = notes.put(MEMORY_NOTE);
+            9
+        }
+    };
+    ExitCode::from(status)
 }
 
-/// The words behind the program's name.
-fn given_words(rt: &(impl Env + AllocGlobal)) -> io::Result<Vec<String>> {
-    let mut words = Vec::new(rt.alloc());
-    for word in env::args(rt)?.skip(1) {
-        words.push(word).map_err(AllocError::from)?;
+/// Runs the program on the process's words, files and output. Words that are no text are no request, as none are.
+fn serve_process<M: Sink>(rt: HostRuntime, notes: &mut M) -> Result<u8, AllocError> {
+    let alloc = rt.alloc();
+    let words = match env::args(&rt) {
+        Ok(args) => words_behind(args.collect(alloc)?),
+        Err(error) if error.kind() == io::ErrorKind::OutOfMemory => return Err(AllocError),
+        Err(_) => Vec::new(alloc),
+    };
+    let Ok(buffer) = BufWriter::with_capacity(alloc, OUTPUT_BUFFER, rt.stdout()) else {
+        return Err(AllocError);
+    };
+    let mut out = StreamSink::new(buffer);
+    let mut shelf = FileShelf::new(alloc, rt);
+    let status = run(alloc, &words, &mut shelf, &mut out, notes);
+    Ok(finish(status, &mut out, notes))
+}
+
+/// The words behind the program's name, which is the first of all.
+fn words_behind(mut words: Vec<String>) -> Vec<String>
+    ensures { result.items ≡ drop 1 words.items }
+{
+    if !words.is_empty() {
+        words.remove(0);
     }
-    Ok(words)
+    words
+}
+
+/// The status once what is left of the report in the output's buffer is written out: where a whole report can't be
+/// written to its end, that is a write fault.
+fn finish<W: Write + Drop, M: Sink>(status: u8, out: &mut StreamSink<W>, notes: &mut M) -> u8
+    ensures refused { status ≢ 0 → result ≡ status }
+    ensures written { (result ≡ status) ⊎ (result ≡ 8) }
+{
+    match out.finish() {
+        Err(_) if status == 0 => {
+            let _ = notes.put(WRITE_FAULT_NOTE);
+            8
+        }
+        _ => status,
+    }
 }

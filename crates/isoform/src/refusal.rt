@@ -1,10 +1,11 @@
 //! Why a run ends without its report, and the note that it leaves.
 ghost use Rattle.std.specs.Prelude.{◌≡◌, IfOk};
-ghost use Rattle.isoform.specs.Notes.{note_of, status_of};
-ghost use Rattle.isoform.specs.Answering.{refusal_of};
+ghost use Rattle.isoform.specs.Notes.{message_of, note_of, status_of};
+ghost use Rattle.isoform.specs.Refusals.{of_words_fault, refusal_of};
 ghost use Rattle.isoform.specs.declared.refusal.Refusal.TheVariants.{Memory};
 
-use crate::input_fault::{InputFault, InputFile};
+use crate::input_fault::{InputFault, labelled};
+use command_words::{Word, WordsFault};
 use std::alloc::{AllocError, Global};
 
 /// The notes that can be told without memory.
@@ -17,8 +18,8 @@ pub const MEMORY_NOTE: &[u8] = b"isoform: memory\n";
 pub enum Refusal {
     /// What the program was given is refused, by a fault that isn't want of memory.
     Input(InputFault),
-    /// A file could not be read.
-    ReadFault(InputFile),
+    /// The file of this name could not be read.
+    ReadFault(Word),
     /// The report could not be written.
     WriteFault,
     /// Want of memory.
@@ -44,6 +45,14 @@ impl From<InputFault> for Refusal {
     }
 }
 
+impl From<WordsFault> for Refusal {
+    ghost from_gives = { λ e refusal. refusal ≡ refusal_of (of_words_fault e) };
+
+    fn from(fault: WordsFault) -> Refusal {
+        Refusal::from(InputFault::from(fault))
+    }
+}
+
 impl Refusal {
     /// The exit status.
     pub fn status(&self) -> u8
@@ -57,28 +66,24 @@ impl Refusal {
         }
     }
 
-    /// The note, one line. `table` is the name of the table file.
-    pub fn note(&self, alloc: Global, table: &str) -> Result<Vec<u8>, AllocError>
-        ensures { IfOk result (λ note. note.items ≡ note_of table.now self.now) }
+    /// What a note says of the refusal.
+    fn message(&self, alloc: Global) -> Result<Vec<u8>, AllocError>
+        ensures { IfOk result (λ message. message.items ≡ message_of self.now) }
     {
         match self {
-            Refusal::Input(fault) => fault.note(alloc, table),
-            Refusal::ReadFault(InputFile::Table) => {
-                let note = format!(in alloc; "isoform: read fault: {table}\n")?;
-                Ok(note.into_bytes())
-            }
-            Refusal::WriteFault => Vec::from_slice(alloc, WRITE_FAULT_NOTE),
-            Refusal::Memory => Vec::from_slice(alloc, MEMORY_NOTE),
+            Refusal::Input(fault) => fault.message(alloc),
+            Refusal::ReadFault(name) => { labelled(alloc, b"read fault: ", name.text().as_bytes()) }
+            Refusal::WriteFault => Vec::from_slice(alloc, b"write fault"),
+            Refusal::Memory => Vec::from_slice(alloc, b"memory"),
         }
     }
-}
 
-/// Why a run ends without its report, beside the name of the table file, which is empty where the words ask
-/// for none.
-#[derive(Debug, Drop)]
-pub struct Refused<'w> {
-    /// The refusal.
-    pub refusal: Refusal,
-    /// The name of the table file.
-    pub table: &'w str,
+    /// The note, one line.
+    pub fn note(&self, alloc: Global) -> Result<Vec<u8>, AllocError>
+        ensures { IfOk result (λ note. note.items ≡ note_of self.now) }
+    {
+        let mut note = labelled(alloc, b"isoform: ", &self.message(alloc)?)?;
+        note.push(b'\n')?;
+        Ok(note)
+    }
 }

@@ -429,3 +429,127 @@ fn limits_are_refused_before_anything_is_written(rt: HostRuntime) -> Result<(), 
     check_case(&rt, alloc, &many)?;
     Ok(())
 }
+
+/// The words of a text, which stand between blanks.
+fn words_of(alloc: Global, text: &str) -> Result<Vec<String>, AllocError> {
+    let mut words = Vec::new(alloc);
+    for word in text.split(' ') {
+        words.push(String::from_str(alloc, word)?)?;
+    }
+    Ok(words)
+}
+
+#[test]
+fn words_stand_in_any_order(rt: HostRuntime) -> Result<(), Fail> {
+    let alloc = rt.alloc();
+    // Words, and whether they are a request.
+    let cases = [
+        (
+            "decompose --alphabet=AB --da 0.00001 --table=t.csv --mass=10",
+            true,
+        ),
+        (
+            "decompose --mass 10 --alphabet AB --table t.csv --da=0.00001",
+            true,
+        ),
+        (
+            "decompose --mass 10 --mass 10 --alphabet AB --table t.csv --da 0",
+            false,
+        ),
+        (
+            "decompose --mass 10 --alphabet AB --table t.csv --da 0 x",
+            false,
+        ),
+        (
+            "decompose --mass 10 --alphabet AB --table t.csv --da 0 --",
+            false,
+        ),
+        (
+            "decompose --mass 10 --alphabet AB --table t.csv --da 0 --help",
+            false,
+        ),
+        (
+            "decompose --mass 10 --alphabet AB --table t.csv --d 0",
+            false,
+        ),
+        ("decompose --mass 10 --table t.csv --da 0", false),
+        (
+            "decompose --mass 10 --alphabet AB --table t.csv --da=-1",
+            false,
+        ),
+        (
+            "envelope --mass 10 --alphabet AB --table t.csv --da 0",
+            false,
+        ),
+    ];
+    for (text, is_request) in cases {
+        let words = words_of(alloc, text)?;
+        let mut shelf = shelf_with(alloc, AB)?;
+        let mut out = MemorySink::new(alloc, 4096)?;
+        let mut notes = MemorySink::new(alloc, 4096)?;
+        let status = run(alloc, &words, &mut shelf, &mut out, &mut notes);
+        if is_request {
+            assert!(rt; status == 0 && out.bytes() == AB_REPORT, "{text}");
+        } else {
+            assert!(rt; status == 2 && out.bytes().is_empty(), "{text}");
+            assert!(rt; notes.bytes() == b"isoform: words\n".as_slice(), "{text}");
+        }
+    }
+    Ok(())
+}
+
+#[test]
+fn a_name_of_4000_bytes_is_told(rt: HostRuntime) -> Result<(), Fail> {
+    let alloc = rt.alloc();
+    let mut words = words_of(alloc, "decompose --mass 10 --alphabet AB --da 0 --table")?;
+    words.push(String::from_utf8(vec![in alloc; b'n'; 4000]?)?)?;
+    let mut shelf = MemoryShelf::new(alloc);
+    let mut out = MemorySink::new(alloc, 4096)?;
+    let mut notes = MemorySink::new(alloc, 8192)?;
+    let status = run(alloc, &words, &mut shelf, &mut out, &mut notes);
+    assert_eq!(rt; status, 7);
+    assert_eq!(rt; notes.bytes().len(), 4021);
+    Ok(())
+}
+
+/// Four symbols of half a Da, of which six atoms make 84 formulas.
+const LIGHT: &[u8] =
+    b"symbol,number,mass,abundance,valence\ne-,0,0.0005,0,0\nA,1,0.5,1,1\nB,1,0.5,1,1\nC,1,0.5,1,1\nD,1,0.5,1,1\n";
+
+#[test]
+fn a_long_report_is_put_line_by_line_until_a_put_fails(rt: HostRuntime) -> Result<(), Fail> {
+    let alloc = rt.alloc();
+    let words = words_of(
+        alloc,
+        "decompose --table t.csv --mass 3 --da 0 --alphabet ABCD",
+    )?;
+    let mut whole = MemorySink::new(alloc, 16_384)?;
+    let mut notes = MemorySink::new(alloc, 4096)?;
+    let mut shelf = shelf_with(alloc, LIGHT)?;
+    assert_eq!(rt; run(alloc, &words, &mut shelf, &mut whole, &mut notes), 0);
+    assert!(rt; whole.bytes().len() > 4096);
+    // The lines before a failing put, and the bytes that it takes.
+    for (call, taken) in [(86, 0), (86, 20), (40, 7), (2, 3)] {
+        let mut shelf = shelf_with(alloc, LIGHT)?;
+        let mut out = MemorySink::new(alloc, 16_384)?;
+        out.fail_at(call, taken)?;
+        let status = run(alloc, &words, &mut shelf, &mut out, &mut notes);
+        assert!(rt; status == 8, "put {call}");
+        let mut lines = 1;
+        let mut received = 0;
+        for byte in whole.bytes() {
+            if lines < call {
+                received += 1;
+                if *byte == b'\n' {
+                    lines += 1;
+                }
+            }
+        }
+        let received = received + taken as usize;
+        assert!(rt;
+            received <= whole.bytes().len() && out.bytes() == &whole.bytes()[..received],
+            "put {call}"
+        );
+    }
+    Ok(())
+}

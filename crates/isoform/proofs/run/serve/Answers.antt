@@ -1,28 +1,26 @@
-use Rattle.std.specs.Prelude.{Ok, map, string_bytes}
-use Rattle.isoform.specs.Words.{request_of}
-use Rattle.isoform.specs.Requested.{requested}
-use Rattle.isoform.proofs.Endings.{words_show, writes_for, refused_words_show}
-use Rattle.isoform.proofs.ToldFiles.{of_files_map, some_files}
+use Rattle.std.specs.Prelude.{map, string_bytes}
+use Rattle.std.proofs.lemmas.Result.{err_from_is_err_and}
+use Rattle.isoform.specs.Outside.{outside}
+use Rattle.isoform.proofs.Endings.{refused_words_end, words_end}
+use Rattle.isoform.proofs.PartLaws.{if_some_map, if_some_of}
 use Rattle.isoform.proofs.run.serve.Goals as goal
 
-pub returns-in-Err-clause-shows : goal.returns-in-Err-clause-shows
-returns-in-Err-clause-shows g c =
-    let words = map string_bytes c.args.words.now in
-    rw c.from.ensures
-    (of_files_map (λ files any. refused_words_show words files _ c.in-Err.fault c.in-Err.ensures)
-    (some_files (g.H.Shelf.held c.args.shelf.now)))
+pub returns-in_err-request-clause-answers : goal.returns-in_err-request-clause-answers
+returns-in_err-request-clause-answers g c =
+    let given = err_from_is_err_and c.from_residual.result c.from_residual.ensures.1 in
+    rw (given.1, given.2) (if_some_of (g.H.Shelf.held c.args.shelf.now) _
+    (λ files. refused_words_end (map string_bytes c.args.words.now.items) files
+    (outside (g.H.Shelf.asked c.args.shelf.now) (g.H.Shelf.faults c.args.shelf.now)
+    (g.O.Sink.written c.args.out.now) (g.O.Sink.faults c.args.out.now)) c.in_err-request.field-0.0
+    c.in_err-request.ensures.gives))
 
-pub returns-in-Ok-serve_request-clause-shows : goal.returns-in-Ok-serve_request-clause-shows
-returns-in-Ok-serve_request-clause-shows g c =
-    let words = map string_bytes c.args.words.now in
-    of_files_map (λ files shows. words_show words files (requested c.in-Ok.request) _ _ _ c.in-Ok.ensures shows) c.in-Ok-serve_request.ensures.shows
-
-pub returns-in-Err-serve_request-clause-shows : goal.returns-in-Err-serve_request-clause-shows
-returns-in-Err-serve_request-clause-shows g c =
-    let words = map string_bytes c.args.words.now in
-    of_files_map (λ files shows. words_show words files (requested c.in-Ok.request) _ _ _ c.in-Ok.ensures shows) c.in-Err-serve_request.ensures.shows
-
-pub returns-in-Ok-serve_request-clause-writes : goal.returns-in-Ok-serve_request-clause-writes
-returns-in-Ok-serve_request-clause-writes g c =
-    writes_for (Ok tt) (g.H.Shelf.held c.args.shelf.now) (request_of (map string_bytes c.args.words.now)) (requested c.in-Ok.request) _ _
-    c.in-Ok.ensures c.in-Ok-serve_request.ensures.writes
+pub returns-clause-answers : goal.returns-clause-answers
+returns-clause-answers g c =
+    if_some_map (g.H.Shelf.held c.args.shelf.now) _ _
+    (λ files ends. words_end (map string_bytes c.args.words.now.items) files c.in_ok-request.request
+    (outside (g.H.Shelf.asked c.args.shelf.now) (g.H.Shelf.faults c.args.shelf.now)
+    (g.O.Sink.written c.args.out.now) (g.O.Sink.faults c.args.out.now))
+    (outside (g.H.Shelf.asked c.serve_request.new.shelf) (g.H.Shelf.faults c.serve_request.new.shelf)
+    (g.O.Sink.written c.serve_request.new.out) (g.O.Sink.faults c.serve_request.new.out)) c.serve_request.result
+    c.in_ok-request.ensures.gives ends)
+    c.serve_request.ensures.answers

@@ -1,0 +1,169 @@
+-- What a run does at the outside: how it ends, and what the shelf, the output and the notes show of it.
+use Rattle.std.specs.Prelude.{◌≡◌, ℕ, ◌+◌, ◌<◌, ◌≤◌, ◌++◌, ◌⊎◌, List, [], ◌∷◌, length, take, slice_get, Option, Some, IfSome, Result, Ok, Err, IsOkAnd, ⊤}
+use Rattle.std.specs.Io.KnownBytes.{append_known}
+use Rattle.outside_ports.specs.Faults.{Rose}
+use Rattle.outside_ports.specs.Files.{Files}
+use Rattle.isoform.specs.Answer.{Outcome, IsReport}
+use Rattle.isoform.specs.Asked.{Asked, Names}
+use Rattle.isoform.specs.Claims.{Holds}
+use Rattle.isoform.specs.Notes.{status_of, note_of}
+use Rattle.isoform.specs.declared.refusal.Refusal.{Refusal}
+use Rattle.isoform.specs.declared.refusal.Refusal.TheVariants.{Input, ReadFault, WriteFault, Memory}
+
+-- The names asked are all of these where nothing is refused, and else some first ones of them; a file that couldn't be
+-- read is the last one asked for.
+abbrev pub AsksNames : {X : Type 0} → Names → Names → Names → Result X Refusal → Type 0
+AsksNames names before after (Ok x) = after ≡ before ++ names
+AsksNames names before after (Err (ReadFault name)) =
+    (others : ℕ) × (slice_get names others ≡ Some name) × (after ≡ before ++ take (others + 1) names)
+AsksNames names before after (Err refusal) = (asked : ℕ) × (after ≡ before ++ take asked names)
+
+-- The shelf's count of faults rose where a file couldn't be read, and else is as it was; memory may have run out
+-- behind a fault.
+abbrev pub CountsReads : {X : Type 0} → ℕ → ℕ → Result X Refusal → Type 0
+CountsReads before after (Err (ReadFault name)) = Rose before after × (before ≤ after)
+CountsReads before after (Err Memory) = before ≤ after
+CountsReads before after answered = after ≡ before
+
+-- it is no fault of the output
+abbrev pub NoWriteFault : {X : Type 0} → Result X Refusal → Type 0
+NoWriteFault (Err WriteFault) = ⊥
+NoWriteFault answered = ⊤
+
+-- What a part of a run that may ask for files of these names shows of the shelf, whatever the files hold. No such part
+-- writes.
+pub record Reads {X : Type 0} (names before after : Names) (faults_before faults_after : ℕ) (answered : Result X Refusal) : Type 0 where
+  pub asks : AsksNames names before after answered
+  pub counts : CountsReads faults_before faults_after answered
+  pub writes_nothing : NoWriteFault answered
+
+-- What a part of a run answers and asks for, where this is expected of it: the value, seen through `view`, or the
+-- refusal, and the names up to it. Only a device that failed, or want of memory, can end it earlier.
+abbrev pub AnswersAs : {X A : Type 0} → (X → A) → Asked A → Names → Names → Result X Refusal → Type 0
+AnswersAs view expected before after (Ok x) = (expected.result ≡ Ok (view x)) × (after ≡ before ++ expected.names)
+AnswersAs view expected before after (Err (Input fault)) =
+    (expected.result ≡ Err (Input fault)) × (after ≡ before ++ expected.names)
+AnswersAs view expected before after (Err refusal) = (asked : ℕ) × (after ≡ before ++ take asked expected.names)
+
+-- how a run ends: its report is written, or there is a refusal
+abbrev pub Ending : Type 0
+Ending = Result (Unit {0}) Refusal
+
+-- What was put of a text: all of it, or some first bytes where the output failed or memory ran out. The count of the
+-- output's faults rose exactly where it failed.
+abbrev pub Puts : List ℕ → Option (List ℕ) → Option (List ℕ) → ℕ → ℕ → Ending → Type 0
+Puts text before after faults_before faults_after (Ok done) =
+    (after ≡ append_known before text) × (faults_after ≡ faults_before)
+Puts text before after faults_before faults_after (Err WriteFault) =
+    ((taken : ℕ) × (after ≡ append_known before (take taken text)))
+    × Rose faults_before faults_after × (faults_before ≤ faults_after)
+Puts text before after faults_before faults_after (Err Memory) =
+    ((taken : ℕ) × (after ≡ append_known before (take taken text))) × (faults_after ≡ faults_before)
+Puts text before after faults_before faults_after (Err refusal) = ⊥
+
+-- what the shelf and the output show at one moment: the names asked and the shelf's faults, what `out` received, where
+-- it tells that, and its faults
+pub record Outside : Type 0 where
+  pub asked : Names
+  pub shelf_faults : ℕ
+  pub received : Option (List ℕ)
+  pub out_faults : ℕ
+
+abbrev pub outside : Names → ℕ → Option (List ℕ) → ℕ → Outside
+outside asked shelf_faults received out_faults =
+    record { asked = asked; shelf_faults = shelf_faults; received = received; out_faults = out_faults }
+
+-- the count of the output's faults rose where the report couldn't be written, and else is as it was
+abbrev pub CountsWrites : ℕ → ℕ → Ending → Type 0
+CountsWrites before after (Err WriteFault) = Rose before after × (before ≤ after)
+CountsWrites before after ending = after ≡ before
+
+-- the output received nothing where what was given is refused, or a file couldn't be read
+abbrev pub ReceivesNothing : Option (List ℕ) → Option (List ℕ) → Ending → Type 0
+ReceivesNothing before after (Err (Input fault)) = after ≡ before
+ReceivesNothing before after (Err (ReadFault name)) = after ≡ before
+ReceivesNothing before after ending = ⊤
+
+-- what a run that may ask for files of these names shows at the outside, whatever they hold
+pub record Shows (names : Names) (before after : Outside) (ending : Ending) : Type 0 where
+  pub asks : AsksNames names before.asked after.asked ending
+  pub reads : CountsReads before.shelf_faults after.shelf_faults ending
+  pub writes : CountsWrites before.out_faults after.out_faults ending
+  pub receives : ReceivesNothing before.received after.received ending
+
+-- some first bytes of a report of the outcome were received
+pub record ReceivesSome (outcome : Outcome) (before after : Option (List ℕ)) : Type 0 where
+  pub report : List ℕ
+  pub is_report : IsReport outcome report
+  pub taken : ℕ
+  pub received : after ≡ append_known before (take taken report)
+
+-- the same, where there is an outcome, and else nothing was received
+abbrev pub ReceivesSomeOf : Result Outcome Refusal → Option (List ℕ) → Option (List ℕ) → Type 0
+ReceivesSomeOf (Ok outcome) before after = ReceivesSome outcome before after
+ReceivesSomeOf (Err refusal) before after = after ≡ before
+
+-- the whole of a report of the outcome was received
+pub record ReceivesAll (outcome : Outcome) (before after : Option (List ℕ)) : Type 0 where
+  pub report : List ℕ
+  pub is_report : IsReport outcome report
+  pub received : after ≡ append_known before report
+
+-- How a run ends that has this answer: its report is written, and what it claims holds, or what was given is refused, as the answer says; or a
+-- file couldn't be read, the report couldn't be written whole, or memory ran out before that.
+abbrev pub EndsAs : Asked Outcome → Outside → Outside → Ending → Type 0
+EndsAs answer before after (Ok done) =
+    IsOkAnd answer.result (λ outcome. ReceivesAll outcome before.received after.received × Holds outcome)
+    × (after.asked ≡ before.asked ++ answer.names)
+EndsAs answer before after (Err WriteFault) =
+    IsOkAnd answer.result (λ outcome. ReceivesSome outcome before.received after.received)
+    × (after.asked ≡ before.asked ++ answer.names)
+EndsAs answer before after (Err Memory) =
+    ReceivesSomeOf answer.result before.received after.received
+    × ((asked : ℕ) × (after.asked ≡ before.asked ++ take asked answer.names))
+EndsAs answer before after (Err (ReadFault name)) =
+    (asked : ℕ) × (after.asked ≡ before.asked ++ take asked answer.names)
+EndsAs answer before after (Err (Input fault)) =
+    (answer.result ≡ Err (Input fault)) × (after.asked ≡ before.asked ++ answer.names)
+
+-- the refusal that is told is the one that came, or want of memory for its note; a write fault takes none
+abbrev pub IsTold : Refusal → Refusal → Type 0
+IsTold came told = (told ≡ came) ⊎ ((told ≡ Memory) × (came ≡ WriteFault → ⊥))
+
+-- a note was received, or some first bytes of it where the count of faults rose
+abbrev pub IsPut : List ℕ → Option (List ℕ) → ℕ → Option (List ℕ) → ℕ → Type 0
+IsPut note before faults_before after faults_after =
+    ((after ≡ append_known before note) × (faults_after ≡ faults_before))
+    ⊎ (Rose faults_before faults_after × (faults_before ≤ faults_after)
+    × ((taken : ℕ) × (after ≡ append_known before (take taken note))))
+
+-- the notes received nothing where the report is written, and else the note, or some first bytes of it where their
+-- count of faults rose
+abbrev pub TellsNote : Option (List ℕ) → ℕ → Option (List ℕ) → ℕ → Ending → Type 0
+TellsNote before faults_before after faults_after (Ok done) = (after ≡ before) × (faults_after ≡ faults_before)
+TellsNote before faults_before after faults_after (Err refusal) =
+    IsPut (note_of refusal) before faults_before after faults_after
+
+-- the status of an ending
+abbrev pub status_of_ending : Ending → ℕ
+status_of_ending (Ok done) = 0
+status_of_ending (Err refusal) = status_of refusal
+
+abbrev pub status_of_result : Result Outcome Refusal → ℕ
+status_of_result (Ok outcome) = 0
+status_of_result (Err refusal) = status_of refusal
+
+-- the status of an answer that no device and no want of memory hinders
+abbrev pub status_of_answer : Asked Outcome → ℕ
+status_of_answer answer = status_of_result answer.result
+
+-- a run on words, which have files of these names, and whose answer over files is this: how it ends, with which status,
+-- and what the shelf, `out` and the notes show of that
+pub record Runs (names : Names) (held : Option Files) (answer : Files → Asked Outcome) (before after : Outside)
+    (notes_before : Option (List ℕ)) (note_faults_before : ℕ)
+    (notes_after : Option (List ℕ)) (note_faults_after : ℕ) (status : ℕ) : Type 0 where
+  pub ending : Ending
+  pub status_is : status ≡ status_of_ending ending
+  pub shows : Shows names before after ending
+  pub answers : IfSome held (λ files. EndsAs (answer files) before after ending)
+  pub tells : TellsNote notes_before note_faults_before notes_after note_faults_after ending

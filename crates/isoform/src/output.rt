@@ -1,0 +1,12 @@
+//! What is put to the output.
+ghost use Rattle.isoform.specs.Outside.{Puts};
+
+use crate::refusal::Refusal;
+use outside_ports::{Sink, put_lines};
+
+/// Puts a text line by line. Nothing is put after a put that failed.
+pub fn put_text<O: Sink>(text: &[u8], out: &mut O) -> Result<(), Refusal>
+    ensures { Puts text.now (O.written out.old) (O.written out.new) (O.faults out.old) (O.faults out.new) result }
+{
+    put_lines(text, out).map_err(|_| Refusal::WriteFault)
+}

@@ -1,0 +1,3 @@
+pub mod ProgressLaws
+pub mod BoardLaws
+pub mod PlayLaws

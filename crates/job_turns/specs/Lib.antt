@@ -1,0 +1,4 @@
+pub mod Jobs
+pub mod Turns
+pub mod Steps
+pub mod Boards

@@ -1,0 +1,3 @@
+pub mod MassTexts
+pub mod JoinedWords
+pub mod WordsOfLines
