@@ -1,2 +1,5 @@
 pub mod IonRanges
 pub mod CopiedMasses
+pub mod RatioLemmas
+pub mod ScaledMasses
+pub mod ScaledWindows

@@ -1,5 +1,5 @@
 -- The masses whose ions are within tolerance of a measured m/z. All are in 10^-12 Da.
-use Rattle.std.specs.Prelude.{ℕ, ℤ, pos, ◌*◌, ◌<◌, ◌≤◌, ◌+ℤ◌}
+use Rattle.std.specs.Prelude.{ℕ, ℤ, pos, ◌*◌, ◌<◌, ◌≤◌, ◌↔◌, ◌+ℤ◌}
 use Rattle.mass_scaling.specs.declared.tolerances.Tolerance.{Tolerance}
 use Rattle.mass_scaling.specs.declared.windows.Charged.{Charged}
 use Rattle.mass_scaling.specs.declared.windows.Window.{Window}
@@ -30,3 +30,11 @@ pub record IsWindowOf (mz : ℕ) (tolerance : Tolerance) (ion : Charged) (window
 -- no mass above 0 has an ion within tolerance
 abbrev pub NoMassIsWithin : ℕ → Tolerance → Charged → Type 0
 NoMassIsWithin mz tolerance ion = (mass : ℕ) → 1 ≤ mass → ¬ IsMassWithin mz tolerance ion mass
+
+-- a mass or a number that a window holds, both ends included
+abbrev pub Holds : Window → ℕ → Type 0
+Holds window mass = (window.lo ≤ mass) × (mass ≤ window.hi)
+
+-- the window holds exactly these masses or numbers
+abbrev pub HoldsExactly : Window → (ℕ → Type 0) → Type 0
+HoldsExactly window IsOne = (mass : ℕ) → IsOne mass ↔ Holds window mass

@@ -17,3 +17,21 @@ pub const MAX_COPIES: u32 = 4;
 
 /// The greatest size of the mass of an ion, and of what its adduct adds to it: 9,000,000 Da, in 10^-12 Da.
 pub const MAX_ION_MASS: u64 = 9_000_000_000_000_000_000;
+
+/// The most masses of an alphabet.
+pub const MAX_MASSES: usize = 20;
+
+/// The least mass of a symbol: 0.5 Da, in 10^-12 Da.
+pub const MIN_MASS: u64 = 500_000_000_000;
+
+/// The greatest mass of a symbol: 1,000,000 Da, in 10^-12 Da.
+pub const MAX_MASS: u64 = 1_000_000_000_000_000_000;
+
+/// The greatest mass of the last symbol of an alphabet that has a scale: 400 Da, in 10^-12 Da.
+pub const MAX_BASE_MASS: u64 = 400_000_000_000_000;
+
+/// The greatest scaled mass of the last symbol of an alphabet.
+pub const MAX_SCALED_BASE: u64 = 1_000_000;
+
+/// The greatest scaled mass of a symbol: 1,000,000 Da at a grain of 10^-5 Da.
+pub const MAX_SCALED_MASS: u64 = 100_000_000_000;

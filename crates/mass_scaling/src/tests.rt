@@ -256,3 +256,63 @@ fn a_window_is_exact_at_the_largest_numbers(rt: HostRuntime) {
         assert_eq!(rt; *found, *wanted, "case {place}");
     }
 }
+
+const OXYGEN: u64 = 15_994_914_619_570;
+
+const CARBON: u64 = 12_000_000_000_000;
+
+const HYDROGEN: u64 = 1_007_825_032_230;
+
+#[test]
+fn a_scale_has_the_finest_grain_that_its_least_mass_allows(
+    rt: HostRuntime,
+) -> Result<(), ScaleFault> {
+    let light = scale_of(rt.alloc(), &[OXYGEN, CARBON, HYDROGEN])?;
+    assert_eq!(rt; light.grain(), 10_000_000);
+    assert_eq!(rt; light.scaled(), [1_599_491, 1_200_000, 100_782].as_slice());
+    let carbon = scale_of(rt.alloc(), &[CARBON])?;
+    assert_eq!(rt; carbon.grain(), 100_000_000);
+    assert_eq!(rt; carbon.scaled(), [120_000].as_slice());
+    let heavy = scale_of(rt.alloc(), &[1_000_000 * DALTON, 400 * DALTON])?;
+    assert_eq!(rt; heavy.grain(), 1_000_000_000);
+    assert_eq!(rt; heavy.scaled(), [1_000_000_000, 400_000].as_slice());
+    let too_heavy = scale_of(rt.alloc(), &[400 * DALTON + 1]);
+    assert!(rt; matches!(&too_heavy, Err(ScaleFault::BaseTooHeavy)));
+    Ok(())
+}
+
+#[test]
+fn a_scaled_window_goes_from_the_least_to_the_greatest_number(
+    rt: HostRuntime,
+) -> Result<(), ScaleFault> {
+    let near_ten = [10_000_010_000_000, 10_000_000_000_000];
+    let scale = scale_of(rt.alloc(), &near_ten)?;
+    let window = Window {
+        lo: 9_999_990_000_000,
+        hi: 10_000_010_000_000,
+    };
+    assert_eq!(rt;
+        scaled_window(&near_ten, &scale, window),
+        masses(999_999, 1_000_001)
+    );
+    let light = [OXYGEN, CARBON, HYDROGEN];
+    let scale = scale_of(rt.alloc(), &light)?;
+    let cases = [
+        (1, 2, None),
+        (
+            180_062_388_105_050,
+            180_064_388_105_050,
+            masses(18_006_149, 18_006_438),
+        ),
+        (
+            u64::MAX,
+            u64::MAX,
+            masses(1_844_665_196_620, 1_844_674_407_370),
+        ),
+        (12 * DALTON + 1, 12 * DALTON, masses(1_199_995, 1_200_000)),
+    ];
+    for (lo, hi, wanted) in cases {
+        assert_eq!(rt; scaled_window(&light, &scale, Window { lo, hi }), wanted);
+    }
+    Ok(())
+}

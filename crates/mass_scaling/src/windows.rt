@@ -19,7 +19,8 @@ pub struct Charged {
     pub shift: i128,
 }
 
-/// The masses from `lo` to `hi`, both included, in 10^-12 Da: `lo` is above 0 and not above `hi`.
+/// The masses from `lo` to `hi`, both included, in 10^-12 Da: `lo` is above 0 and not above `hi`. A scaled window
+/// has numbers of grains in place of masses.
 #[derive(Clone, Copy, Debug, PartialEq, Eq)]
 pub struct Window {
     pub lo: u64,

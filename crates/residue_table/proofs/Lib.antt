@@ -1,0 +1,5 @@
+pub mod Cycles
+pub mod CarriedRows
+pub mod ProbedRows
+pub mod LevelRows
+pub mod RunMinima

@@ -1,0 +1,20 @@
+use Rattle.std.proofs.Common.{◌≡◌, ◌+◌, ◌*◌, ◌-◌, ◌≤◌, length, ◌++◌, [], ◌∷◌, rules, arith}
+use Rattle.std.proofs.lemmas.Simd.{length-chunk}
+use Rattle.residue_table.proofs.RunMinima.{pushed_bounds}
+use Rattle.residue_table.proofs.rows.minima_of.Goals as goal
+
+pub loop-run-preserved : goal.loop-run-preserved
+loop-run-preserved c =
+    let entries = c.args.entries.now in
+    let run = c.loop-run.run in
+    let stop = c.min-stop.result in
+    let is : c.push.new.self.items ≡ c.loop-run.minima.items ++ c.least_of.result ∷ [] = search rules in
+    record {
+      one_each = search rules;
+      bounds = rw is
+          (pushed_bounds c.loop-run.minima.items entries c.least_of.result run stop c.loop-run.invariant.one_each
+          c.min-stop.ensures c.loop-run.invariant.bounds
+          (λ j less.
+          let room : run * 64 + (stop - run * 64) ≤ length entries = omega (arith, less, c.min-stop.ensures) in
+          c.least_of.ensures j (omega (arith, less, length-chunk (run * 64) (stop - run * 64) entries room))));
+    }

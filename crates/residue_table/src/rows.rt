@@ -1,0 +1,130 @@
+//! The row of one level, and its probes.
+ghost use Rattle.std.specs.Prelude.{◌≡◌, ℕ, ◌+◌, ◌*◌, ◌/◌, ◌^◌, ◌<◌, ◌≤◌, ◌↔◌, length, slice_index, IsTrue, IsNone, IfSome, IfOk, EachIndex};
+ghost use Rattle.residue_table.specs.Sums.{IsLeastIn, HoldsNowhereIn};
+ghost use Rattle.residue_table.specs.Rows.{BoundsRuns};
+
+use lane_scan::first_reached;
+use std::alloc::{AllocError, Global};
+
+/// The entry of a residue that isn't reached. No number that is asked for comes up to it.
+pub(crate) const UNREACHED: u64 = 1 << 63;
+
+/// How many entries have one minimum.
+pub(crate) const RUN: usize = 64;
+
+/// The row of a level: for each residue of the modulus the least number that the level reaches. Beside it stand the
+/// minima of runs of entries, by which a probe passes over runs that reach nothing.
+#[derive(Debug, Drop)]
+pub(crate) struct Row {
+    pub(crate) entries: Vec<u64>,
+    pub(crate) minima: Vec<u64>,
+}
+
+impl Row {
+    ghost use Rattle.residue_table.specs.Rows.{IsFirstPlace, IsIndexed, IsReached, NoneReached};
+
+    /// The row of these entries.
+    pub(crate) fn of(alloc: Global, entries: Vec<u64>) -> Result<Row, AllocError>
+        requires some { 1 ≤ length entries.items }
+        requires from_zero { slice_index entries.items 0 ≡ 0 }
+        ensures entries { IfOk result (λ row. row.entries.items ≡ entries.items) }
+        ensures indexed { IfOk result IsIndexed }
+    {
+        let minima = minima_of(alloc, &entries)?;
+        Ok(Row { entries, minima })
+    }
+
+    /// Whether the level reaches a number.
+    pub(crate) fn reaches(&self, value: u64) -> bool
+        requires { IsIndexed self.now }
+        ensures { IsTrue result ↔ IsReached self.now.entries.items value }
+    {
+        let residue = value % self.entries.len() as u64;
+        self.entries[residue as usize] <= value
+    }
+
+    /// The least number from `lo` to `hi` that the level reaches. A multiple of the modulus is always reached, so
+    /// that at most the numbers up to the next one are looked at.
+    pub(crate) fn first_in(&self, lo: u64, hi: u64) -> Option<u64>
+        requires indexed { IsIndexed self.now }
+        requires ordered { lo ≤ hi }
+        requires range { hi < 2 ^ 63 }
+        requires modulus { length self.now.entries.items ≤ 2 ^ 62 }
+        ensures least { IfSome result (IsLeastIn (IsReached self.now.entries.items) lo hi) }
+        ensures none { IsNone result → HoldsNowhereIn (IsReached self.now.entries.items) lo hi }
+    {
+        let modulus = self.entries.len() as u64;
+        let residue = lo % modulus;
+        let to_multiple = modulus - residue;
+        let number = (hi - lo + 1).min(to_multiple);
+        let start = residue as usize;
+        match self.first_between(start, start + number as usize, lo) {
+            Some(place) => Some(lo + (place - start) as u64),
+            None if to_multiple <= hi - lo => Some(lo + to_multiple),
+            None => None,
+        }
+    }
+
+    /// The first place from `start` on and before `end` whose number is reached; that of `start` is `from`.
+    fn first_between(&self, start: usize, end: usize, from: u64) -> Option<usize>
+        requires indexed { IsIndexed self.now }
+        requires ordered { start ≤ end }
+        requires within { end ≤ length self.now.entries.items }
+        requires range { from + 2 * length self.now.entries.items < 2 ^ 64 }
+        ensures first { IfSome result (IsFirstPlace self.now.entries.items start end from) }
+        ensures none { IsNone result → NoneReached self.now.entries.items start end from }
+    {
+        let highest = from + (end - start) as u64;
+        let mut at = start;
+        while at < end {
+            let run = self.next_run(at, end, highest)?;
+            let first = at.max(run * RUN);
+            let stop = end.min(run * RUN + RUN);
+            let number = from + (first - start) as u64;
+            match first_reached(&self.entries[first..stop], number) {
+                Some(before) => return Some(first + before),
+                None => at = stop,
+            }
+        }
+        None
+    }
+
+    /// The first run, from that of the place `at` on, that may have an entry of at most `highest` before `end`.
+    fn next_run(&self, at: usize, end: usize, highest: u64) -> Option<usize>
+        requires indexed { IsIndexed self.now }
+        requires ordered { at < end }
+        requires within { end ≤ length self.now.entries.items }
+        requires range { highest + length self.now.entries.items < 2 ^ 64 }
+        ensures not_before { IfSome result (λ run. at < run * RUN + RUN) }
+        ensures not_after { IfSome result (λ run. run * RUN < end) }
+        ensures passed { IfSome result (λ run. (k : ℕ) → at ≤ k → k < run * RUN →
+            highest < slice_index self.now.entries.items k) }
+        ensures none { IsNone result → (k : ℕ) → at ≤ k → k < end → highest < slice_index self.now.entries.items k }
+    {
+        let first = at / RUN;
+        let last = (end - 1) / RUN;
+        let before = first_reached(&self.minima[first..last + 1], highest)?;
+        Some(first + before)
+    }
+}
+
+/// The minima of the runs of a row.
+fn minima_of(alloc: Global, entries: &[u64]) -> Result<Vec<u64>, AllocError>
+    ensures runs { IfOk result (λ minima. length entries.now ≤ RUN * length minima.items) }
+    ensures bounds { IfOk result (λ minima. BoundsRuns minima.items entries.now) }
+{
+    let mut minima = Vec::new(alloc);
+    for run in 0..entries.len().div_ceil(RUN) {
+        let start = run * RUN;
+        let stop = entries.len().min(start + RUN);
+        minima.push(least_of(&entries[start..stop]))?;
+    }
+    Ok(minima)
+}
+
+/// The least of some numbers, and 0 of none.
+fn least_of(numbers: &[u64]) -> u64
+    ensures { EachIndex numbers.now (λ k. result ≤ slice_index numbers.now k) }
+{
+    numbers.iter().copied().min().unwrap_or(0)
+}
