@@ -1,13 +1,15 @@
 -- The box: its lists lie within the limits and rise, and its first list that passes a test begins
 -- with the first count under which one does.
-use Rattle.std.proofs.Common.{◌≡◌, ℕ, zero, suc, ◌+◌, ◌-◌, ◌<◌, ◌≤◌, leb, Bool, true, ◌&&◌, Some, None, List, [], ◌∷◌, length, map, refl, sym, ap, inl, inr, subst, arith}
+use Rattle.std.proofs.Common.{◌≡◌, ℕ, zero, suc, ◌+◌, ◌-◌, ◌<◌, ◌≤◌, leb, Bool, true, ◌&&◌, Some, None, List, [], ◌∷◌}
+use Rattle.std.proofs.Common.{length, map, refl, sym, ap, ◌∙◌, inl, inr, subst, arith}
 use Rattle.std.specs.List.{find, flat_map, range_with_len, list_all, zip, AllByRecursion as Each}
 use Rattle.std.proofs.lemmas.Bool.{cases_lt, and_parts, leb-true, le-leb}
 use Rattle.std.proofs.lemmas.List.Folds.{find-append}
 use Rattle.decompose.specs.CountLists.{IsInBox, box_of, comes_after}
 use Rattle.decompose.specs.declared.limits.Limit.{Limit}
-use Rattle.decompose.proofs.FindAndFilter.{find-map}
-use Rattle.decompose.proofs.CountListOrder.{Rises, Each-append, Each-map, Each-from_all, Each-weaken, Rises-append, Rises-map, after_above}
+use Rattle.decompose.proofs.FindAndFilter.{find-map, find_agree, find_each}
+use Rattle.decompose.proofs.CountListOrder.{Rises, Each-append, Each-map, Each-from_all, Each-weaken, Rises-append}
+use Rattle.decompose.proofs.CountListOrder.{Rises-map, after_above}
 
 -- the lists that begin with one of n counts from a on, and go on with one of a box
 abbrev pub from_counts : List (List ℕ) → List ℕ → List (List ℕ)
@@ -75,6 +77,34 @@ none_from p box a (suc n) skipped =
     rw (find-append p (map (λ cs. a ∷ cs) box), find-map p (λ cs. a ∷ cs) box, skipped a (omega arith) (omega arith))
     (none_from p box (a + 1) n (λ k h w. skipped k (omega arith) (omega arith)))
 
+-- the counts under which no list passes a test may be left out
+pub skip_from : (p : List ℕ → Bool) (box : List (List ℕ)) (a n j b m : ℕ) → b ≡ a + j → m + j ≡ n →
+    ((k : ℕ) → a ≤ k → k < a + j → find (λ cs. p (k ∷ cs)) box ≡ None) →
+    find p (from_counts box (range_with_len a n)) ≡ find p (from_counts box (range_with_len b m))
+skip_from p box a n zero b m e f skipped =
+    let same_a : b ≡ a = omega arith in
+    let same_n : m ≡ n = omega arith in
+    rw (same_a, same_n) refl
+skip_from p box a zero (suc j) b m e f skipped = absurd (omega arith)
+skip_from p box a (suc n) (suc j) b m e f skipped =
+    rw (find-append p (map (λ cs. a ∷ cs) box), find-map p (λ cs. a ∷ cs) box, skipped a (omega arith) (omega arith))
+    (skip_from p box (a + 1) n j b m (omega arith) (omega arith) (λ k h w. skipped k (omega arith) (omega arith)))
+
+-- two tests that agree under each count
+pub agree_from : (p q : List ℕ → Bool) (box : List (List ℕ)) (a n : ℕ) →
+    ((k : ℕ) (cs : List ℕ) → a ≤ k → p (k ∷ cs) ≡ q (k ∷ cs)) →
+    find p (from_counts box (range_with_len a n)) ≡ find q (from_counts box (range_with_len a n))
+agree_from p q box a zero agree = refl
+agree_from p q box a (suc n) agree =
+    rw (
+      find-append p (map (λ cs. a ∷ cs) box),
+      find-append q (map (λ cs. a ∷ cs) box),
+      find-map p (λ cs. a ∷ cs) box,
+      find-map q (λ cs. a ∷ cs) box,
+      find_agree (λ cs. p (a ∷ cs)) (λ cs. q (a ∷ cs)) box (λ cs. agree a cs (omega arith)),
+      agree_from p q box (a + 1) n (λ k cs h. agree k cs (omega arith)),
+    ) refl
+
 -- no list of the box that begins with one of the counts below c passes the test
 abbrev pub NoneBelow : (List ℕ → Bool) → Limit → List Limit → ℕ → Type 0
 NoneBelow p l ls c = (k : ℕ) → l.low ≤ k → k < c → find (λ cs. p (k ∷ cs)) (box_of ls) ≡ None
@@ -90,6 +120,16 @@ pub find-box_none : (p : List ℕ → Bool) (l : Limit) (ls : List Limit) → No
 unfolding box_of
 find-box_none p l ls skipped =
     none_from p (box_of ls) l.low (l.high + 1 - l.low) (λ k h w. skipped k h (omega arith))
+
+-- where no list with a lower first count passes, the box may begin with this count
+pub find-box_from : (p q : List ℕ → Bool) (l : Limit) (ls : List Limit) (c : ℕ) → l.low ≤ c → c ≤ l.high + 1 →
+    NoneBelow p l ls c → ((k : ℕ) (cs : List ℕ) → c ≤ k → p (k ∷ cs) ≡ q (k ∷ cs)) →
+    find p (box_of (l ∷ ls)) ≡ find q (box_of (record { low = c; high = l.high } ∷ ls))
+unfolding box_of
+find-box_from p q l ls c low high skipped agree =
+    skip_from p (box_of ls) l.low (l.high + 1 - l.low) (c - l.low) c (l.high + 1 - c) (omega arith) (omega arith)
+    (λ k h w. skipped k h (omega arith))
+    ∙ agree_from p q (box_of ls) c (l.high + 1 - c) agree
 
 -- a list of the box has one count for each limit
 pub IsInBox-length : (limits : List Limit) (counts : List ℕ) → IsInBox limits counts → length counts ≡ length limits
@@ -120,3 +160,8 @@ all-from_IsInBox [] (c ∷ cs) h = absurd h
 all-from_IsInBox (l ∷ ls) [] h = absurd h
 all-from_IsInBox (l ∷ ls) (c ∷ cs) h =
     rw (le-leb l.low c h.0, le-leb c l.high h.1) (all-from_IsInBox ls cs h.2)
+
+-- what is found in the box is within the limits
+pub found_in_box : (limits : List Limit) (p : List ℕ → Bool) (x : List ℕ) → find p (box_of limits) ≡ Some x →
+    IsInBox limits x
+found_in_box limits p x found = (find_each (IsInBox limits) p (box_of limits) x (IsInBox-box limits) found).0

@@ -1,7 +1,11 @@
+pub mod LevelsOfSymbols
 pub mod FindAndFilter
 pub mod CountListOrder
 pub mod FirstOfBox
 pub mod SearchSteps
 pub mod FirstOfSlice
+pub mod WalkSteps
+pub mod WalkClimbs
 pub mod NextGiven
+pub mod WalkKept
 pub mod EachListOnce

@@ -1,5 +1,5 @@
 -- What an enumeration gives next.
-use Rattle.std.proofs.Common.{◌≡◌, ℕ, Bool, true, Option, Some, None, List, [], ◌∷◌, refl, sym, ap, ◌∙◌}
+use Rattle.std.proofs.Common.{◌≡◌, ℕ, true, Option, Some, None, List, [], ◌∷◌, sym, ap, ◌∙◌}
 use Rattle.std.specs.List.{find, filter}
 use Rattle.std.proofs.lemmas.Bool.{and_parts}
 use Rattle.std.proofs.Math.Bool.{and-true}
@@ -7,7 +7,7 @@ use Rattle.std.proofs.lemmas.List.Elements.{filter_agree}
 use Rattle.decompose.specs.Masses.{mass_of}
 use Rattle.decompose.specs.CountLists.{IsInBox, box_of, comes_after}
 use Rattle.decompose.specs.Enumeration.{Enumeration, left, vectors, lists_after, after_given, is_within}
-use Rattle.decompose.specs.Search.{IsEnumeration, enumeration, is_left}
+use Rattle.decompose.specs.Search.{is_left}
 use Rattle.decompose.specs.declared.limits.Limit.{Limit}
 use Rattle.mass_scaling.specs.declared.windows.Window.{Window}
 use Rattle.decompose.proofs.FindAndFilter.{find_each, filter_none, filter_twice}
@@ -45,25 +45,3 @@ module _ (e : Enumeration) where
     pub first_in_window : is_within e.window (mass_of e.masses x) ≡ true
     first_in_window =
         (and_parts _ _ (find_each (IsInBox e.limits) _ (box_of e.limits) x (IsInBox-box e.limits) found).1).0
-
--- an enumeration now, as its parts say, that gives the list x
-module _ (now : Enumeration) (masses : List ℕ) (limits : List Limit) (window : Window) (has_given : Bool)
-    (last : List ℕ) (is_now : enumeration masses limits window has_given last ≡ now) (x : List ℕ)
-    (found : find (is_left now.masses now.window now.given) (box_of now.limits) ≡ Some x) (given : List ℕ)
-    (is_given : given ≡ x) where
-  pub gives : enumeration masses limits window true given ≡ record now { given = Some x }
-  gives = rw (is_given, ← is_now) refl
-
-  pub gives_next : left now ≡ x ∷ left (enumeration masses limits window true given)
-  gives_next = first_left now x found ∙ ap (λ (e : Enumeration). x ∷ left e) (sym gives)
-
-  pub IsEnumeration-gives : IsEnumeration (enumeration masses limits window has_given last) →
-      IsEnumeration (enumeration masses limits window true given)
-  IsEnumeration-gives h = record {
-    one_limit_each = h.one_limit_each;
-    limits = h.limits;
-    window = h.window;
-    given =
-        let limits_now : now.limits ≡ limits = ap (λ (e : Enumeration). e.limits) (sym is_now) in
-        rw is_given (rw limits_now at (first_in_box now x found));
-  }

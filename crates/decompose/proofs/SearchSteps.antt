@@ -1,6 +1,7 @@
 -- How the search goes on from one count to the next: over the masses m ∷ ms and the limits l ∷ ls,
 -- for the first list of the box whose mass is in the window and which comes after the given one.
-use Rattle.std.proofs.Common.{◌≡◌, ℕ, ◌+◌, ◌-◌, ◌*◌, ◌/◌, ◌<◌, ◌≤◌, min, leb, eqb, Bool, true, false, not, ◌&&◌, length, Option, Some, None, List, [], ◌∷◌, refl, ◌∙◌, inl, inr, subst, arith}
+use Rattle.std.proofs.Common.{◌≡◌, ℕ, ◌+◌, ◌-◌, ◌*◌, ◌/◌, ◌<◌, ◌≤◌, min, leb, eqb, Bool, true, false, not, ◌&&◌, length}
+use Rattle.std.proofs.Common.{Option, Some, None, List, [], ◌∷◌, refl, ◌∙◌, inl, inr, subst, arith}
 use Rattle.std.specs.Prelude.{IfSome, IsSomeAnd, MatchBool, MatchOption, is_some}
 use Rattle.std.specs.List.{find}
 use Rattle.std.specs.Int.{div_ceil}
@@ -12,16 +13,13 @@ use Rattle.std.proofs.Math.Nat.{div-mul-le_self, mul-le-mul_right}
 use Rattle.decompose.specs.Masses.{mass_of}
 use Rattle.decompose.specs.CountLists.{IsInBox, box_of}
 use Rattle.decompose.specs.Enumeration.{is_within}
+use Rattle.decompose.specs.Levels.{window_less}
 use Rattle.decompose.specs.Search.{follows, is_left}
 use Rattle.decompose.specs.declared.limits.Limit.{Limit}
 use Rattle.mass_scaling.specs.declared.windows.Window.{Window}
 use Rattle.decompose.proofs.FindAndFilter.{find_none, find_agree}
 use Rattle.decompose.proofs.CountListOrder.{after_below, after_above, after_same}
 use Rattle.decompose.proofs.FirstOfBox.{NoneBelow, find-box_found, find-box_none}
-
--- what is left of a window below a mass
-abbrev pub window_less : Window → ℕ → Window
-window_less window taken = record { lo = window.lo - taken; hi = window.hi - taken }
 
 -- the search has come to a count: no list with a smaller first count is left, and with this first
 -- count the others have to follow now
@@ -34,7 +32,7 @@ pub record Searched (m : ℕ) (ms : List ℕ) (l : Limit) (ls : List Limit) (win
   pub in_box : IfSome now (IsInBox ls)
 
 -- a mass and one more are within a window exactly if the mass is within what is left of it
-within_less : (window : Window) (taken mass : ℕ) → taken ≤ window.hi →
+pub within_less : (window : Window) (taken mass : ℕ) → taken ≤ window.hi →
     is_within window (taken + mass) ≡ is_within (window_less window taken) mass
 within_less window taken mass h = grind (arith, nat_tests)
 

@@ -3,3 +3,5 @@ pub mod Masses
 pub mod CountLists
 pub mod Enumeration
 pub mod Search
+pub mod Levels
+pub mod Walk

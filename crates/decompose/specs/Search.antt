@@ -1,5 +1,5 @@
 -- For proofs alone: how an enumeration is kept, and what the search for its next count list looks for.
-use Rattle.std.specs.Prelude.{ℕ, ◌≡◌, Bool, true, ◌&&◌, if◌then◌else◌, List, length, All, Option, Some, None, IfSome}
+use Rattle.std.specs.Prelude.{ℕ, ◌≡◌, Bool, true, ◌&&◌, List, length, All, Option, Some, None, IfSome}
 use Rattle.mass_scaling.specs.declared.windows.Window.{Window}
 use Rattle.mass_scaling.specs.Windows.{IsWindow}
 use Rattle.decompose.specs.Masses.{mass_of}
@@ -8,9 +8,9 @@ use Rattle.decompose.specs.Enumeration.{Enumeration, is_within}
 use Rattle.decompose.specs.declared.limits.Limit.{Limit}
 
 -- the enumeration that has given this list last, or none yet
-abbrev pub enumeration : List ℕ → List Limit → Window → Bool → List ℕ → Enumeration
-enumeration masses limits window has_given last =
-    record { masses = masses; limits = limits; window = window; given = if has_given then Some last else None }
+abbrev pub enumeration : List ℕ → List Limit → Window → Option (List ℕ) → Enumeration
+enumeration masses limits window given =
+    record { masses = masses; limits = limits; window = window; given = given }
 
 -- what holds of each enumeration: it has a limit for each mass, its window is one, and the list given last is
 -- one of the box

@@ -1,8 +1,8 @@
 //! The enumeration of the count lists of a window.
-ghost use Rattle.std.specs.Prelude.{◌≡◌, ◌↔◌, ℕ, List, [], ◌∷◌, length, All, AllPairs, Contains, not, IsTrue, IfOk, OnOk, IsErrOf, Some, None, MatchBool};
+ghost use Rattle.std.specs.Prelude.{◌≡◌, ◌<◌, ◌↔◌, ℕ, List, [], ◌∷◌, length, All, AllPairs, Contains, not, IsTrue};
+ghost use Rattle.std.specs.Prelude.{IfOk, OnOk, IsErrOf, IsSomeAnd, Some, None, MatchBool};
 ghost use Rattle.std.specs.Bool.{OnTrue, OnFalse};
 ghost use Rattle.std.specs.List.{find};
-ghost use Rattle.std.specs.Option.{option_copied};
 ghost use Rattle.decompose.specs.Masses.{mass_of};
 ghost use Rattle.decompose.specs.CountLists.{IsLimit, IsInBox, box_of, comes_after};
 ghost use Rattle.decompose.specs.Enumeration.{vectors, lists_after, left, is_within};
@@ -11,9 +11,10 @@ ghost use Rattle.mass_scaling.specs.Windows.{IsWindow};
 
 use crate::count_list::Counts;
 use crate::faults::ResumeFault;
+use crate::levels::{Level, Symbol, counts_of, levels_of, symbols_of, write_counts};
 use crate::limits::Limit;
 use crate::mass_tables::Tables;
-use crate::search::find_next;
+use crate::walk::{find_left, stand_at};
 use mass_scaling::Window;
 use outside_ports::Steps;
 use std::alloc::{AllocError, Global};
@@ -22,27 +23,32 @@ use std::sync::ledger::Ledger;
 
 /// Enumerates the count lists of a box whose mass is in a window, in lexicographic order, small
 /// counts first. It is seen as its masses, limits and window and the list that it gave last.
+///
+/// The walk is kept from one list to the next, so that the next one costs what lies between.
 #[derive(Drop)]
 pub struct Decomps<'t> {
     tables: &'t Tables,
-    limits: Vec<Limit>,
+    symbols: Vec<Symbol>,
     window: Window,
-    /// The list given last, once one was given.
-    last: Vec<u32>,
-    has_given: bool,
+    /// A level for each symbol: their counts are the list given last, once one was given.
+    levels: Vec<Level>,
+    /// At how many levels the walk stands, once a list was given: no list with their counts is left.
+    stands: Option<usize>,
 }
 
 impl<'t> Model for Decomps<'t> {
-    ghost use Rattle.std.specs.Prelude.{◌≡◌, length};
+    ghost use Rattle.std.specs.Prelude.{List};
     ghost use Rattle.decompose.specs.Enumeration.{Enumeration};
-    ghost use Rattle.decompose.specs.Search.{IsEnumeration, enumeration};
+    ghost use Rattle.decompose.specs.Search.{enumeration};
+    ghost use Rattle.decompose.specs.Levels.{limits_of, counts_of};
+    ghost use Rattle.decompose.specs.Walk.{IsWalk, given_of};
 
     ghost Value = { Enumeration };
 
-    ghost view = { λ d. enumeration d.tables.now d.limits.items d.window d.has_given d.last.items };
+    ghost view = { λ d. enumeration d.tables.now (limits_of d.symbols.items) d.window
+        (given_of d.stands (counts_of d.levels.items)) };
 
-    ghost invariant = { λ d. (length d.last.items ≡ length d.tables.now)
-        × IsEnumeration (enumeration d.tables.now d.limits.items d.window d.has_given d.last.items) };
+    ghost invariant = { λ d. IsWalk d.tables.now d.symbols.items d.window d.levels.items d.stands };
 }
 
 /// Whether these counts are within the limits, one for each.
@@ -74,14 +80,17 @@ impl<'t> Decomps<'t> {
             ↔ (IsInBox limits.now cs × IsTrue (is_within window (mass_of tables.now cs))) }
         ensures rising { AllPairs (λ a b. IsTrue (comes_after a b)) (vectors tables.now limits.now window) }
     {
-        let limits = limits.to_vec(alloc)?;
-        let last = vec![in alloc; 0; limits.len()]?;
+        let symbols = symbols_of(alloc, &tables.masses, limits)?;
+        let levels = vec![in alloc; Level {
+            count: 0,
+            left: window
+        }; symbols.len()]?;
         Ok(Decomps {
             tables,
-            limits,
+            symbols,
             window,
-            last,
-            has_given: false,
+            levels,
+            stands: None,
         })
     }
 
@@ -109,14 +118,15 @@ impl<'t> Decomps<'t> {
         if !is_in_box(limits, after.counts()) {
             return Err(ResumeFault::NotInBox);
         }
-        let last = after.counts().to_vec(alloc)?;
-        let limits = limits.to_vec(alloc)?;
+        let symbols = symbols_of(alloc, &tables.masses, limits)?;
+        let mut levels = levels_of(alloc, window, after.counts())?;
+        let depth = stand_at(&symbols, window, &mut levels);
         Ok(Decomps {
             tables,
-            limits,
+            symbols,
             window,
-            last,
-            has_given: true,
+            levels,
+            stands: Some(depth),
         })
     }
 
@@ -125,35 +135,29 @@ impl<'t> Decomps<'t> {
     pub fn token(&self) -> Result<Option<Counts>, AllocError>
         ensures { IfOk result (λ token. token ≡ self.now.given) }
     {
-        match self.given() {
-            Some(counts) => Ok(Some(Counts::of(*self.last.allocator(), counts)?)),
-            None => Ok(None),
+        if self.stands.is_none() {
+            return Ok(None);
         }
+        let counts = counts_of(*self.levels.allocator(), &self.levels)?;
+        Ok(Some(Counts { counts }))
     }
 
-    /// The list given last.
-    fn given(&self) -> Option<&[u32]>
-        ensures { option_copied result ≡ self.now.given }
-    {
-        if self.has_given {
-            Some(self.last.as_slice())
-        } else {
-            None
-        }
-    }
-
-    /// Writes the first list that is left into `out`; false where none is.
-    fn find_left(&self, out: &mut [u32]) -> bool
-        requires { length out.old ≡ length self.now.masses }
+    /// Walks on to the first list that is left; false where none is.
+    fn walk_on(&mut self) -> bool
         ensures { MatchBool result
-            (find (is_left self.now.masses self.now.window self.now.given) (box_of self.now.limits)
-            ≡ Some out.new)
-            ((find (is_left self.now.masses self.now.window self.now.given) (box_of self.now.limits)
-            ≡ None) × (out.new ≡ out.old)) }
+            (IsSomeAnd self.new.given (λ next.
+            (find (is_left self.old.masses self.old.window self.old.given) (box_of self.old.limits) ≡ Some next)
+            × (self.new ≡ record self.old { given = Some next })))
+            ((find (is_left self.old.masses self.old.window self.old.given) (box_of self.old.limits) ≡ None)
+            × (self.new ≡ self.old)) }
     {
-        let tables = self.tables;
-        let masses = tables.masses.as_slice();
-        find_next(masses, &self.limits, self.window, self.given(), out)
+        if find_left(&self.symbols, self.window, self.stands, &mut self.levels) {
+            self.stands = Some(self.levels.len());
+            return true;
+        }
+        // Nothing is left, and nothing will be.
+        self.stands = self.stands.and(Some(0));
+        false
     }
 
     /// Gives the next list: writes it into `out`, which has a count for each mass. False exactly at
@@ -170,11 +174,10 @@ impl<'t> Decomps<'t> {
         ensures out_unchanged { OnFalse result (out.new ≡ out.old) }
         ensures length { length out.new ≡ length out.old }
     {
-        if !self.find_left(&mut out.counts) {
+        if !self.walk_on() {
             return false;
         }
-        self.last.copy_from_slice(&out.counts);
-        self.has_given = true;
+        write_counts(&self.levels, &mut out.counts);
         true
     }
 }

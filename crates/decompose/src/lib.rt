@@ -2,7 +2,7 @@
 //!
 //! [`Tables`] are seen by contracts as the masses of an alphabet's symbols, [`Counts`] as the list of the
 //! counts, and a [`Decomps`] as the masses, limits and window that it goes over and the list that it gave
-//! last. The crate stands on `mass_scaling` for windows of mass on `outside_ports` for the counter of
+//! last. The crate stands on `mass_scaling` for windows of mass, on `outside_ports` for the counter of
 //! steps, and on `thiserror`.
 //!
 //! The layer above makes the tables of an alphabet by [`Tables::of`], begins by [`Decomps::start`], and takes
@@ -12,9 +12,10 @@
 mod count_list;
 mod enumerate;
 mod faults;
+mod levels;
 mod limits;
 mod mass_tables;
-mod search;
+mod walk;
 
 pub use count_list::Counts;
 pub use enumerate::Decomps;

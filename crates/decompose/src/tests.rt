@@ -2,6 +2,8 @@
 ghost use Rattle.std.specs.Prelude.{◌≡◌, ◌<◌, ◌≤◌, ℕ, length, IfOk};
 ghost use Rattle.decompose.specs.Masses.{AreMasses};
 
+mod plain_search;
+
 use super::*;
 use outside_ports::Steps;
 use std::alloc::{AllocError, Global};
@@ -107,12 +109,8 @@ fn give(alloc: Global, decomps: &mut Decomps<'_>) -> Result<Vec<u32>, AllocError
 fn glucose_is_found_by_its_mass(rt: HostRuntime) -> Result<(), Fail> {
     let alloc = rt.alloc();
     let tables = oxygen_carbon_hydrogen(alloc)?;
-    let limits = [Limit {
-        low: 0,
-        high: MAX_COUNT,
-    }; 3];
     let mass = 180_063_388_104_180;
-    let mut decomps = Decomps::start(alloc, &tables, &limits, Window { lo: mass, hi: mass })?;
+    let mut decomps = Decomps::start(alloc, &tables, &UP_TO_MAX, Window { lo: mass, hi: mass })?;
     assert_eq!(rt;
         gather(alloc, &mut decomps, 3)?.as_slice(),
         [6, 6, 12].as_slice()
@@ -241,5 +239,31 @@ fn an_alphabet_is_too_heavy_from_above_400_da(rt: HostRuntime) -> Result<(), Fai
         of_one_mass(alloc, 400_000_000_000_001).err(),
         Some(ScaleFault::BaseTooHeavy)
     );
+    Ok(())
+}
+
+/// 0 to 10,000 atoms of each of three symbols.
+const UP_TO_MAX: [Limit; 3] = [Limit {
+    low: 0,
+    high: MAX_COUNT,
+}; 3];
+
+// The windows go from m Da to m + 0.5 Da.
+#[test]
+fn the_walk_gives_what_the_plain_search_finds(rt: HostRuntime) -> Result<(), Fail> {
+    let alloc = rt.alloc();
+    let masses = [OXYGEN, CARBON, HYDROGEN];
+    let tables = oxygen_carbon_hydrogen(alloc)?;
+    for da in 1..=60u64 {
+        let lo = da * 1_000_000_000_000;
+        let window = Window {
+            lo,
+            hi: lo + 500_000_000_000,
+        };
+        let mut decomps = Decomps::start(alloc, &tables, &UP_TO_MAX, window)?;
+        let walked = gather(alloc, &mut decomps, 3)?;
+        let found = plain_search::lists_of(alloc, &masses, &UP_TO_MAX, window, 1_000)?;
+        assert_eq!(rt; walked.as_slice(), found.as_slice(), "from {da} Da");
+    }
     Ok(())
 }

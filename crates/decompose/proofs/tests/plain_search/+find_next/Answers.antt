@@ -1,4 +1,5 @@
-use Rattle.std.proofs.Common.{length, Option, Bool, true, false, ◌&&◌, not, eqb, refl, Bor, ◌≡◌, ℕ, suc, ◌-◌, ◌<◌, List, ◌∷◌, Some, None, sym, ◌∙◌, take, drop, length-take, length-drop, arith, rules}
+use Rattle.std.proofs.Common.{length, Option, Bool, true, false, ◌&&◌, not, eqb, refl, Bor, ◌≡◌, ℕ, suc, ◌-◌, ◌<◌, List}
+use Rattle.std.proofs.Common.{◌∷◌, Some, None, sym, ◌∙◌, take, drop, length-take, length-drop, arith, rules}
 use Rattle.std.specs.List.{slice_index_or}
 use Rattle.std.specs.Option.{option_copied, is_some, IfSome}
 use Rattle.std.proofs.lemmas.Slice.{first_rest}
@@ -8,8 +9,9 @@ use Rattle.decompose.proofs.FirstOfSlice.{put_first, put_back}
 use Rattle.decompose.proofs.SearchSteps.{search_first, search_raise, search_found, search_on, search_end, search_empty}
 use Rattle.std.proofs.lemmas.Bool.{ne_eqb, eqb-true}
 use Rattle.decompose.proofs.FirstOfBox.{IsInBox-length}
-use Rattle.decompose.proofs.search.+find_next.Goals.{then-is_empty+then-count-least, then-is_empty+else-count-least, else-is_empty}
-use Rattle.decompose.proofs.search.+find_next.Goals as goal
+use Rattle.decompose.proofs.tests.plain_search.+find_next.Goals.{then-is_empty+then-count-least}
+use Rattle.decompose.proofs.tests.plain_search.+find_next.Goals.{then-is_empty+else-count-least, else-is_empty}
+use Rattle.decompose.proofs.tests.plain_search.+find_next.Goals as goal
 
 none_given : (lo : ℕ) (given : Option (Bor (List ℕ))) (r : Bool) → lo ≡ 0 → is_some given ≡ not r →
     r ≡ (eqb lo 0 && not (is_some (option_copied given)))
@@ -67,7 +69,10 @@ pub find_next-requires : goal.find_next-requires
 find_next-requires t c =
     let positive = rw c.in-Some.ensures.cases.0 at c.requires.positive in (
       search rules,
-      (search rules, (search rules, (λ k d h. positive (suc k) d (omega arith), c.loop-count.invariant.searched.in_box))),
+      (
+        search rules,
+        (search rules, (λ k d h. positive (suc k) d (omega arith), c.loop-count.invariant.searched.in_box)),
+      ),
     )
 
 pub returns-then-find_next : goal.returns-then-find_next

@@ -2,7 +2,7 @@ use Rattle.std.proofs.Common.{length, ◌≡◌, ◌+◌, ◌-◌}
 use Rattle.std.specs.List.{slice_index_or}
 use Rattle.std.specs.Option.{option_copied}
 use Rattle.decompose.proofs.SearchSteps.{Searched}
-use Rattle.decompose.proofs.search.+find_next.Given as goal
+use Rattle.decompose.proofs.tests.plain_search.+find_next.Given as goal
 
 abbrev pub decreases-find_next : goal.decreases-find_next
 decreases-find_next l = length l.masses.now

@@ -1,5 +1,7 @@
-//! The search for the next count list of a window.
-ghost use Rattle.std.specs.Prelude.{◌≡◌, ◌/◌, ◌<◌, length, min, All, IfSome, IsSomeAnd, Some, None, MatchBool, MatchOption, ◌∷◌};
+//! The plain search for the next count list of a window: the reference that the walk is held against. It goes down
+//! from the first count with each call.
+ghost use Rattle.std.specs.Prelude.{◌≡◌, ◌/◌, ◌<◌, length, min, All, IfSome, IsSomeAnd, Some, None, MatchBool};
+ghost use Rattle.std.specs.Prelude.{MatchOption, ◌∷◌};
 ghost use Rattle.std.specs.List.{find};
 ghost use Rattle.std.specs.Option.{option_copied};
 ghost use Rattle.decompose.specs.CountLists.{IsInBox, box_of};
@@ -7,6 +9,7 @@ ghost use Rattle.decompose.specs.Search.{is_left};
 
 use crate::limits::Limit;
 use mass_scaling::Window;
+use std::alloc::{AllocError, Global};
 
 /// The first count to try, which is that of the list given last, if there is one, and what the
 /// counts after it then have to come after.
@@ -35,7 +38,7 @@ fn highest_count(mass: u64, limit: Limit, window: Window) -> u32
 ///
 /// A prefix whose own mass is above the window is not gone on with, and the last count is found by
 /// a division.
-pub(crate) fn find_next(
+pub(super) fn find_next(
     masses: &[u64],
     limits: &[Limit],
     window: Window,
@@ -79,4 +82,31 @@ pub(crate) fn find_next(
         given = None;
     }
     false
+}
+
+/// All count lists of the box whose mass is in the window, one after the other, at most `most` of them.
+pub(super) fn lists_of(
+    alloc: Global,
+    masses: &[u64],
+    limits: &[Limit],
+    window: Window,
+    most: u32,
+) -> Result<Vec<u32>, AllocError>
+    requires one_limit_each { length limits.now ≡ length masses.now }
+    requires positive { All (λ m. 0 < m) masses.now }
+{
+    let mut lists = Vec::new(alloc);
+    let mut given = vec![in alloc; 0; masses.len()]?;
+    let mut next = vec![in alloc; 0; masses.len()]?;
+    if !find_next(masses, limits, window, None, &mut next) {
+        return Ok(lists);
+    }
+    'lists: for _ in 0..most {
+        lists.extend_from_slice(&next)?;
+        given.copy_from_slice(&next);
+        if !find_next(masses, limits, window, Some(&given), &mut next) {
+            break;
+        }
+    }
+    Ok(lists)
 }

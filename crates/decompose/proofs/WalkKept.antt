@@ -1,0 +1,201 @@
+-- What a walk keeps from one list to the next.
+use Rattle.std.proofs.Common.{◌≡◌, ℕ, suc, length, true, false, Option, Some, None, List, [], ◌∷◌, take, drop, ◌++◌}
+use Rattle.std.proofs.Common.{refl, sym, ap, ◌∙◌, subst}
+use Rattle.std.specs.Prelude.{IfSome, IsSomeAnd}
+use Rattle.std.specs.List.{find, All}
+use Rattle.std.specs.Option.{option_and}
+use Rattle.std.proofs.lemmas.Bool.{and_right}
+use Rattle.std.proofs.lemmas.List.{length-map}
+use Rattle.mass_scaling.specs.declared.windows.Window.{Window}
+use Rattle.mass_scaling.specs.Windows.{IsWindow}
+use Rattle.decompose.specs.Masses.{AreMasses, mass_of}
+use Rattle.decompose.specs.CountLists.{IsLimit, IsInBox, box_of}
+use Rattle.decompose.specs.Enumeration.{Enumeration, left, is_within}
+use Rattle.decompose.specs.Search.{enumeration, is_left}
+use Rattle.decompose.specs.Levels.{symbols_of, masses_of, limits_of, counts_of, AreLevels}
+use Rattle.decompose.specs.Walk.{IsWalk, StandsAt, given_of}
+use Rattle.decompose.specs.declared.limits.Limit.{Limit}
+use Rattle.decompose.specs.declared.levels.Symbol.{Symbol}
+use Rattle.decompose.specs.declared.levels.Level.{Level}
+use Rattle.decompose.proofs.FirstOfBox.{IsInBox-length}
+use Rattle.decompose.proofs.FirstOfSlice.{written}
+use Rattle.decompose.proofs.NextGiven.{first_left, first_in_box, first_in_window}
+use Rattle.decompose.proofs.LevelsOfSymbols.{masses_are, limits_are, length_are, positive_are}
+
+-- once a list is found, the walk stands at all its levels
+stands_at_all : (symbols : List Symbol) (window : Window) (levels : List Level) → AreLevels symbols window levels →
+    StandsAt symbols window levels (length levels)
+unfolding box_of
+stands_at_all [] window [] h = rw (and_right (is_within window 0) false refl) refl
+stands_at_all [] window (v ∷ vs) h = absurd h
+stands_at_all (s ∷ ss) window [] h = absurd h
+stands_at_all (s ∷ ss) window (v ∷ vs) h = (h.0, stands_at_all ss v.left vs h.1)
+
+are_levels-length : (symbols : List Symbol) (window : Window) (levels : List Level) → AreLevels symbols window levels →
+    length levels ≡ length symbols
+are_levels-length [] window [] h = refl
+are_levels-length [] window (v ∷ vs) h = absurd h
+are_levels-length (s ∷ ss) window [] h = absurd h
+are_levels-length (s ∷ ss) window (v ∷ vs) h = ap suc (are_levels-length ss v.left vs h.1)
+
+module _ (masses : List ℕ) (symbols : List Symbol) (window : Window) (levels : List Level) (stands : Option ℕ)
+    (w : IsWalk masses symbols window levels stands) where
+  -- what the search for the list that is left next looks for
+  abbrev looked_for : Option (List ℕ)
+  looked_for =
+      find (is_left (masses_of symbols) window (given_of stands (counts_of levels))) (box_of (limits_of symbols))
+
+  pub next_is : looked_for ≡
+      find (is_left masses window (given_of stands (counts_of levels))) (box_of (limits_of symbols))
+  next_is = rw w.masses_are refl
+
+  pub IsWalk-found : (new : List Level) → looked_for ≡ Some (counts_of new) → AreLevels symbols window new →
+      IsWalk masses symbols window new (Some (length new))
+  IsWalk-found new found are = record {
+    masses_are = w.masses_are;
+    positive = w.positive;
+    one_level_each = are_levels-length symbols window new are;
+    enumerates = record {
+      one_limit_each = w.enumerates.one_limit_each;
+      limits = w.enumerates.limits;
+      window = w.enumerates.window;
+      given =
+          first_in_box (enumeration masses (limits_of symbols) window (given_of stands (counts_of levels)))
+          (counts_of new) (sym next_is ∙ found);
+    };
+    stands_at = stands_at_all symbols window new are;
+  }
+
+-- at the end the walk stands nowhere any more
+pub IsWalk-end : (masses : List ℕ) (symbols : List Symbol) (window : Window) (levels : List Level) (stands : Option ℕ) →
+    IsWalk masses symbols window levels stands →
+    find (is_left (masses_of symbols) window (given_of stands (counts_of levels))) (box_of (limits_of symbols)) ≡ None →
+    IsWalk masses symbols window levels (option_and stands (Some 0))
+IsWalk-end masses symbols window levels None w none = record {
+  masses_are = w.masses_are;
+  positive = w.positive;
+  one_level_each = w.one_level_each;
+  enumerates = w.enumerates;
+  stands_at = tt;
+}
+IsWalk-end masses symbols window levels (Some depth) w none = record {
+  masses_are = w.masses_are;
+  positive = w.positive;
+  one_level_each = w.one_level_each;
+  enumerates = w.enumerates;
+  stands_at = none;
+}
+
+pub given_of-end : (stands : Option ℕ) (counts : List ℕ) →
+    given_of (option_and stands (Some 0)) counts ≡ given_of stands counts
+given_of-end None counts = refl
+given_of-end (Some depth) counts = refl
+
+-- a walk is made
+pub IsWalk-made : (masses : List ℕ) (limits : List Limit) (window : Window) (levels : List Level) (stands : Option ℕ) →
+    AreMasses masses → length limits ≡ length masses → All IsLimit limits → IsWindow window →
+    length levels ≡ length masses → IfSome (given_of stands (counts_of levels)) (IsInBox limits) →
+    IfSome stands (StandsAt (symbols_of masses limits) window levels) →
+    IsWalk masses (symbols_of masses limits) window levels stands
+IsWalk-made masses limits window levels stands are one limits_ok window_ok length_ok box standing = record {
+  masses_are = masses_are masses limits one;
+  positive = positive_are masses limits one are;
+  one_level_each = length_ok ∙ sym (length_are masses limits one);
+  enumerates = rw (limits_are masses limits one)
+      record { one_limit_each = one; limits = limits_ok; window = window_ok; given = box };
+  stands_at = standing;
+}
+
+-- a walk that goes on after these counts: its levels were written over those that were made
+module _ (masses : List ℕ) (limits : List Limit) (window : Window) (after : List ℕ) (symbols : List Symbol)
+    (made new : List Level) (n depth : ℕ) (are : AreMasses masses) (one : length limits ≡ length masses)
+    (limits_ok : All IsLimit limits) (window_ok : IsWindow window) (box : IsInBox limits after)
+    (symbols_are : symbols ≡ symbols_of masses limits) (n_is : n ≡ length made) (same : length new ≡ length made)
+    (counts : counts_of new ≡ after) (standing : StandsAt symbols window new depth) where
+  new_length : length new ≡ length masses
+  new_length =
+      sym (length-map new (λ level. level.count)) ∙ ap length counts ∙ IsInBox-length limits after box ∙ one
+
+  pub IsWalk-resumed : IsWalk masses symbols window (take n (new ++ drop (length new) made)) (Some depth)
+  IsWalk-resumed =
+      rw (written new made n n_is same, symbols_are)
+      (IsWalk-made masses limits window new (Some depth) are one limits_ok window_ok new_length (rw counts box)
+      (rw symbols_are at standing))
+
+  pub resumed_is : enumeration masses (limits_of symbols) window
+      (Some (counts_of (take n (new ++ drop (length new) made)))) ≡ enumeration masses limits window (Some after)
+  resumed_is =
+      rw (written new made n n_is same, symbols_are, limits_are masses limits one, counts) refl
+
+-- a walk that is seen as an enumeration now, and the levels written over its own
+module _ (masses : List ℕ) (symbols : List Symbol) (window : Window) (levels new : List Level) (stands : Option ℕ)
+    (n : ℕ) (now : Enumeration) (w : IsWalk masses symbols window levels stands)
+    (is_now : enumeration masses (limits_of symbols) window (given_of stands (counts_of levels)) ≡ now)
+    (n_is : n ≡ length levels) (same : length new ≡ length levels) where
+  -- the levels behind the search
+  abbrev pub levels_now : List Level
+  levels_now = take n (new ++ drop (length new) levels)
+
+  -- what the search looks for is what the enumeration gives next
+  looks_for : looked_for masses symbols window levels stands w ≡
+      find (is_left now.masses now.window now.given) (box_of now.limits)
+  looks_for = next_is masses symbols window levels stands w ∙ rw (← is_now) refl
+
+  module _ (found : looked_for masses symbols window levels stands w ≡ Some (counts_of new))
+      (are : AreLevels symbols window new) where
+    pub IsWalk-finds : (m : ℕ) → m ≡ n → IsWalk masses symbols window levels_now (Some m)
+    IsWalk-finds m e =
+        let m_is : m ≡ length new = e ∙ n_is ∙ sym same in
+        rw (written new levels n n_is same, m_is) (IsWalk-found masses symbols window levels stands w new found are)
+
+    pub finds_next : (find (is_left now.masses now.window now.given) (box_of now.limits) ≡ Some (counts_of levels_now))
+        × (enumeration masses (limits_of symbols) window (Some (counts_of levels_now)) ≡
+        record now { given = Some (counts_of levels_now) })
+    finds_next = rw (written new levels n n_is same) (sym looks_for ∙ found, rw (← is_now) refl)
+
+  module _ (none : looked_for masses symbols window levels stands w ≡ None) (unchanged : new ≡ levels) where
+    pub IsWalk-ends : IsWalk masses symbols window levels_now (option_and stands (Some 0))
+    IsWalk-ends =
+        rw (written new levels n n_is same, unchanged) (IsWalk-end masses symbols window levels stands w none)
+
+    pub ends_here : (find (is_left now.masses now.window now.given) (box_of now.limits) ≡ None)
+        × (enumeration masses (limits_of symbols) window
+        (given_of (option_and stands (Some 0)) (counts_of levels_now)) ≡ now)
+    ends_here = (
+      sym looks_for ∙ none,
+      rw (written new levels n n_is same, unchanged, given_of-end stands (counts_of levels)) is_now,
+    )
+
+some_given : (stands : Option ℕ) (counts : List ℕ) (P : List ℕ → Type 0) → IsSomeAnd (given_of stands counts) P →
+    P counts
+some_given None counts P h = absurd h
+some_given (Some depth) counts P h = h
+
+-- the list that a walk gives is that of the counts of its levels
+module _ (old now : Enumeration) (masses : List ℕ) (limits : List Limit) (window : Window) (stands : Option ℕ)
+    (counts x : List ℕ) (is_now : enumeration masses limits window (given_of stands counts) ≡ now) (x_is : x ≡ counts)
+    (gives : IsSomeAnd now.given (λ next.
+    (find (is_left old.masses old.window old.given) (box_of old.limits) ≡ Some next)
+    × (now ≡ record old { given = Some next }))) where
+  abbrev IsNext : List ℕ → Type 0
+  IsNext next =
+      (find (is_left old.masses old.window old.given) (box_of old.limits) ≡ Some next)
+      × (now ≡ record old { given = Some next })
+
+  given_now : IsNext x
+  given_now =
+      let is_given : now.given ≡ given_of stands counts = ap (λ (e : Enumeration). e.given) (sym is_now) in
+      let given : IsSomeAnd (given_of stands counts) IsNext = subst (λ g. IsSomeAnd g IsNext) is_given gives in
+      rw x_is (some_given stands counts IsNext given)
+
+  pub gives_next : left old ≡ x ∷ left now
+  gives_next = first_left old x given_now.0 ∙ ap (λ (e : Enumeration). x ∷ left e) (sym given_now.1)
+
+  pub gives_given : now ≡ record old { given = Some x }
+  gives_given = given_now.1
+
+  pub gives_in_box : IsInBox old.limits x
+  gives_in_box = first_in_box old x given_now.0
+
+  pub gives_in_window : is_within old.window (mass_of old.masses x) ≡ true
+  gives_in_window = first_in_window old x given_now.0

@@ -1,0 +1,193 @@
+//! The walk over the count lists of a window, in lexicographic order.
+ghost use Rattle.std.specs.Prelude.{◌≡◌, ◌<◌, ◌≤◌, [], ◌∷◌, length, All, Some, None, MatchBool, IfSome};
+ghost use Rattle.std.specs.Bool.{OnTrue, OnFalse};
+ghost use Rattle.std.specs.List.{find};
+ghost use Rattle.decompose.specs.CountLists.{IsLimit, IsInBox, box_of};
+ghost use Rattle.decompose.specs.Search.{is_left};
+ghost use Rattle.decompose.specs.Levels.{AreLevels, window_at, masses_of, limits_of, counts_of};
+ghost use Rattle.decompose.specs.Walk.{limits_from, FindsFirst, StandsAt, given_of};
+
+use crate::levels::{Level, Symbol};
+use mass_scaling::Window;
+
+/// The least count of the first of these symbols, if there is one.
+fn first_low(symbols: &[Symbol]) -> u32
+    ensures { limits_from result (limits_of symbols.now) ≡ limits_of symbols.now }
+{
+    match symbols {
+        [symbol, ..] => symbol.limit.low,
+        [] => 0,
+    }
+}
+
+/// Writes into `levels` the first list over two symbols whose mass is in the window, from this count of
+/// the heavier one on; false where there is none, and the levels are then as before.
+///
+/// For each count of the heavier symbol, the remainder of what is left by the lighter one's mass tells
+/// whether a count of the lighter one fits. It is kept from count to count without a division.
+fn find_in_pair(
+    heavier: Symbol,
+    lighter: Symbol,
+    window: Window,
+    count: u32,
+    levels: &mut [Level],
+) -> bool
+    requires two { length levels.old ≡ 2 }
+    requires positive { 0 < lighter.mass }
+    requires ordered { window.lo ≤ window.hi }
+    ensures { FindsFirst (heavier ∷ lighter ∷ []) count window result levels.old levels.new }
+{
+    let Some(mut level) = heavier.level_at(window, count) else {
+        return false;
+    };
+    let step = heavier.mass % lighter.mass;
+    let mut remainder = level.left.hi % lighter.mass;
+    'counts: loop {
+        if let Some(last) = lighter.first_by_remainder(level.left, remainder) {
+            levels[0] = level;
+            levels[1] = last;
+            return true;
+        }
+        let Some(raised) = level.raised(heavier) else {
+            return false;
+        };
+        level = raised;
+        remainder = lighter.remainder_less(remainder, step);
+    }
+}
+
+/// Writes into `levels` the first list over these symbols whose mass is in the window, from this count
+/// of the first symbol on; false where there is none, and the levels are then as before.
+fn find_from(symbols: &[Symbol], window: Window, count: u32, levels: &mut [Level]) -> bool
+    requires one_level_each { length levels.old ≡ length symbols.now }
+    requires positive { All (λ symbol. 0 < symbol.mass) symbols.now }
+    requires ordered { window.lo ≤ window.hi }
+    ensures { FindsFirst symbols.now count window result levels.old levels.new }
+{
+    let Some((symbol, below)) = symbols.split_first() else {
+        return window.lo == 0;
+    };
+    if let [lighter] = below {
+        return find_in_pair(*symbol, *lighter, window, count, levels);
+    }
+    let Some(mut level) = symbol.level_at(window, count) else {
+        return false;
+    };
+    let low = first_low(below);
+    'counts: loop {
+        if find_from(below, level.left, low, &mut levels[1..]) {
+            levels[0] = level;
+            return true;
+        }
+        let Some(raised) = level.raised(*symbol) else {
+            return false;
+        };
+        level = raised;
+    }
+}
+
+/// Writes into `levels` the first list over these symbols whose mass is in the window; false where there
+/// is none, and the levels are then as before.
+fn find_first(symbols: &[Symbol], window: Window, levels: &mut [Level]) -> bool
+    requires one_level_each { length levels.old ≡ length symbols.now }
+    requires positive { All (λ symbol. 0 < symbol.mass) symbols.now }
+    requires ordered { window.lo ≤ window.hi }
+    ensures { MatchBool result
+        ((find (is_left (masses_of symbols.now) window None) (box_of (limits_of symbols.now))
+        ≡ Some (counts_of levels.new)) × AreLevels symbols.now window levels.new)
+        ((find (is_left (masses_of symbols.now) window None) (box_of (limits_of symbols.now)) ≡ None)
+        × (levels.new ≡ levels.old)) }
+{
+    find_from(symbols, window, first_low(symbols), levels)
+}
+
+/// What the levels before this one leave of the window.
+fn window_at(window: Window, levels: &[Level], place: usize) -> Window
+    requires { place ≤ length levels.now }
+    ensures { result ≡ window_at window levels.now place }
+{
+    if 0 < place {
+        levels[place - 1].left
+    } else {
+        window
+    }
+}
+
+/// Writes into `levels` the first list over these symbols whose mass is in the window and which comes
+/// after the counts of the levels; false where there is none, and the levels are then as before. The
+/// walk stands at the first `depth` levels.
+///
+/// It goes on at the last level where it stands, and at those before only as the counts there are done.
+fn find_next(symbols: &[Symbol], window: Window, depth: usize, levels: &mut [Level]) -> bool
+    requires one_level_each { length levels.old ≡ length symbols.now }
+    requires positive { All (λ symbol. 0 < symbol.mass) symbols.now }
+    requires ordered { window.lo ≤ window.hi }
+    requires limits { All IsLimit (limits_of symbols.now) }
+    requires stands { StandsAt symbols.now window levels.old depth }
+    requires in_box { IsInBox (limits_of symbols.now) (counts_of levels.old) }
+    ensures { MatchBool result
+        ((find (is_left (masses_of symbols.now) window (Some (counts_of levels.old))) (box_of (limits_of symbols.now))
+        ≡ Some (counts_of levels.new)) × AreLevels symbols.now window levels.new)
+        ((find (is_left (masses_of symbols.now) window (Some (counts_of levels.old)))
+        (box_of (limits_of symbols.now)) ≡ None)
+        × (levels.new ≡ levels.old)) }
+{
+    let mut place = depth;
+    while 0 < place {
+        place -= 1;
+        let left = window_at(window, levels, place);
+        let count = levels[place].count + 1;
+        if find_from(&symbols[place..], left, count, &mut levels[place..]) {
+            return true;
+        }
+    }
+    false
+}
+
+/// Writes into `levels` the first list over these symbols whose mass is in the window and which is
+/// left: where the walk stands at some levels, those that come after their counts, and else all. False
+/// where there is none, and the levels are then as before.
+pub(crate) fn find_left(
+    symbols: &[Symbol],
+    window: Window,
+    stands: Option<usize>,
+    levels: &mut [Level],
+) -> bool
+    requires one_level_each { length levels.old ≡ length symbols.now }
+    requires positive { All (λ symbol. 0 < symbol.mass) symbols.now }
+    requires ordered { window.lo ≤ window.hi }
+    requires limits { All IsLimit (limits_of symbols.now) }
+    requires stands { IfSome stands (StandsAt symbols.now window levels.old) }
+    requires in_box { IfSome (given_of stands (counts_of levels.old)) (IsInBox (limits_of symbols.now)) }
+    ensures { MatchBool result
+        ((find (is_left (masses_of symbols.now) window (given_of stands (counts_of levels.old)))
+        (box_of (limits_of symbols.now)) ≡ Some (counts_of levels.new)) × AreLevels symbols.now window levels.new)
+        ((find (is_left (masses_of symbols.now) window (given_of stands (counts_of levels.old)))
+        (box_of (limits_of symbols.now)) ≡ None)
+        × (levels.new ≡ levels.old)) }
+{
+    match stands {
+        None => find_first(symbols, window, levels),
+        Some(depth) => find_next(symbols, window, depth, levels),
+    }
+}
+
+/// Writes what is left of the window below each count of the levels, as far as the mass of the counts
+/// is not above it; gives the number of levels so far. No list with these counts there and others
+/// after them comes after the counts of the levels and has its mass in the window.
+pub(crate) fn stand_at(symbols: &[Symbol], window: Window, levels: &mut [Level]) -> usize
+    requires one_level_each { length levels.old ≡ length symbols.now }
+    requires in_box { IsInBox (limits_of symbols.now) (counts_of levels.old) }
+    ensures stands { StandsAt symbols.now window levels.new result }
+    ensures counts { counts_of levels.new ≡ counts_of levels.old }
+    ensures depth { result ≤ length levels.new }
+{
+    let Some((symbol, below)) = symbols.split_first() else {
+        return 0;
+    };
+    let Some(level) = symbol.level_at(window, levels[0].count) else {
+        return 0;
+    };
+    levels[0] = level;
+    1 + stand_at(below, level.left, &mut levels[1..])
+}
