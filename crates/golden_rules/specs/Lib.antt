@@ -1,0 +1,10 @@
+pub use Rattle.reader_answers.specs.Answers
+pub use Rattle.element_table.specs.Elements
+pub use Rattle.formula_text.specs.Masses
+pub mod Limits
+pub mod RulesFaults
+pub mod MeetsRules
+pub mod Verdicts
+pub mod RuleLines
+pub mod RulesReadings
+pub mod Profile

@@ -1,0 +1,2 @@
+pub mod PeakRecords
+pub mod PeakColumns
