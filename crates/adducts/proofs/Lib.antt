@@ -1,0 +1,17 @@
+pub mod ReadingSteps
+pub mod WrittenAdducts
+pub mod ReadTexts
+pub mod BadPlaces
+pub mod OneReading
+pub mod TextPlaces
+pub mod ReaderSteps
+pub mod KeptNumbers
+pub mod IonSteps
+pub mod KnownItems
+pub mod KeptAnswers
+pub mod WeighedSums
+pub mod ItemLists
+pub mod IonCounts
+pub mod IonLimits
+pub mod MassBounds
+pub mod IonAnswers

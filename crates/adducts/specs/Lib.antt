@@ -1,0 +1,14 @@
+pub mod AdductTexts
+pub mod Adducts
+pub mod AdductReadings
+pub mod AdductReader
+pub mod Progress
+pub mod KeptAnswers
+pub mod AdductFaults
+pub mod Ions
+pub mod IonTests
+pub use Rattle.reader_answers.specs.Answers
+pub use Rattle.reader_answers.specs.BadPlaces
+pub use Rattle.formula_text.specs.Formulas
+pub use Rattle.formula_text.specs.Masses
+pub use Rattle.mass_scaling.specs.Limits
