@@ -1,0 +1,14 @@
+pub mod ListParts
+pub mod ChildMoves
+pub mod ChildLists
+pub mod WantedItems
+pub mod Descent
+pub mod FaultLemmas
+pub mod CountsOver
+pub mod Reached
+pub mod CutoffLemmas
+pub mod ItemLists
+pub mod ItemOrder
+pub mod ListLaws
+pub mod KeptLists
+pub mod ChildBounds

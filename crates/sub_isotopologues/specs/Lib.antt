@@ -1,0 +1,13 @@
+pub use Rattle.reader_answers.specs.Answers
+pub use Rattle.sorted_lists.specs.SortedLists
+pub use Rattle.multinomial_bounds.specs.Weight
+pub use Rattle.multinomial_bounds.specs.Bounds
+pub use Rattle.multinomial_bounds.specs.Mode
+pub use Rattle.multinomial_bounds.specs.Path
+pub use Rattle.multinomial_bounds.specs.Isotopologue
+pub use Rattle.multinomial_bounds.specs.Compositions
+pub mod SubIsotopologues
+pub mod Children
+pub mod Listings
+pub mod Growth
+pub mod ListAnswers

@@ -1,0 +1,210 @@
+//! The list of an element's subisotopologues.
+ghost use Rattle.std.specs.Prelude.{◌≡◌, ◌≤◌, ◌+◌, ◌∷◌, [], IfOk, OnOk, OnErr, IfNone, OnSome, MatchOption, All};
+ghost use Rattle.std.specs.Prelude.{AllPairs, length, take};
+ghost use Rattle.reader_answers.specs.Answers.{Gives, GivesAs};
+ghost use Rattle.sub_isotopologues.specs.ListAnswers.{is_memory, within_limit, resumed};
+ghost use Rattle.multinomial_bounds.specs.Weight.{IsWeights, IsCounts, weight_of, total_of};
+ghost use Rattle.multinomial_bounds.specs.Bounds.{certainty, IsEnclosure};
+ghost use Rattle.sub_isotopologues.specs.SubIsotopologues.{SubIsotopologue, AreOthers};
+ghost use Rattle.sub_isotopologues.specs.Listings.{Listing, listing_of, lowered, with_given, items_of, places_left};
+ghost use Rattle.sub_isotopologues.specs.Listings.{max_sub_isotopologues};
+
+use crate::children::Wanted;
+use crate::cutoff::cutoff;
+use crate::fault::SubFault;
+use crate::growth::{added_items, unlisted_bounds};
+use crate::others::Others;
+use crate::sub_iso::SubIso;
+use multinomial_bounds::{CERTAINTY, MAX_ATOMS, mode_of};
+use std::alloc::{AllocError, Global};
+use std::marker::Model;
+
+/// The most items of a list.
+pub const MAX_SUB_ISOTOPOLOGUES: u64 = 1_048_576;
+
+/// The subisotopologues of one element whose product with the others is above a threshold, by falling upper bound, ties
+/// in the lexicographic order of their counts.
+///
+/// The list is grown on demand: a lower threshold makes it longer and changes no item. It is seen as the weights and
+/// atoms of the element, the others, the threshold, and how many items were given.
+#[derive(Drop)]
+pub struct SubIsos {
+    weights: Vec<u64>,
+    atoms: u32,
+    before: u64,
+    after: Vec<u64>,
+    threshold: u64,
+    given: usize,
+    mode: SubIso,
+    items: Vec<SubIso>,
+    /// For the first items what bounds their children that are not listed, so that a lower threshold passes over those
+    /// that have none above it.
+    unlisted: Vec<u64>,
+}
+
+impl Model for SubIsos {
+    ghost use Rattle.sub_isotopologues.specs.Listings.{Listing};
+    ghost use Rattle.sub_isotopologues.specs.Growth.{IsKept};
+
+    ghost Value = { Listing };
+
+    ghost view = { λ s. record {
+      element = record { weights = s.weights.items; atoms = s.atoms };
+      before = s.before;
+      after = s.after.items;
+      threshold = s.threshold;
+      given = s.given;
+    } };
+
+    ghost invariant = { λ s. IsKept (record {
+      element = record { weights = s.weights.items; atoms = s.atoms };
+      before = s.before;
+      after = s.after.items;
+      threshold = s.threshold;
+      given = s.given;
+    }) s.mode s.items.items s.unlisted.items };
+}
+
+impl SubIsos {
+    /// The list of an element of 1 to 16 isotopes with weights from 1 to 10^12, by rising mass number, and at most
+    /// [`MAX_ATOMS`] atoms, with the threshold 10^18 and so without an item.
+    pub fn start(
+        alloc: Global,
+        weights: &[u64],
+        atoms: u32,
+        others: Others<'_>,
+    ) -> Result<SubIsos, AllocError>
+        requires weights_in_range { IsWeights weights.now }
+        requires few_atoms { atoms ≤ MAX_ATOMS }
+        requires others_in_range { AreOthers others.before others.after.now }
+        ensures start { IfOk result (λ s.
+            s ≡ listing_of weights.now atoms others.entry.before others.entry.after.now certainty) }
+        ensures empty { IfOk result (λ s. items_of s ≡ []) }
+    {
+        let (mode, enclosure) = mode_of(alloc, weights, atoms)?;
+        Ok(SubIsos {
+            weights: weights.to_vec(alloc)?,
+            atoms,
+            before: others.before,
+            after: others.after.to_vec(alloc)?,
+            threshold: CERTAINTY,
+            given: 0,
+            mode: SubIso::new(mode.counts(), enclosure),
+            items: Vec::new(alloc),
+            unlisted: Vec::new(alloc),
+        })
+    }
+
+    /// The threshold that the products of the items are above, in units of 10^-18.
+    pub fn threshold(&self) -> u64
+        ensures { result ≡ self.now.threshold }
+    {
+        self.threshold
+    }
+
+    /// Lowers the threshold, in units of 10^-18: adds all counts whose product with the others is above the new one and
+    /// not above the one kept. The items from before stay at the front, as they were. Time and memory are in proportion
+    /// to what is added, and to the number of items for each lowering.
+    ///
+    /// `TooMany` exactly where the list would have more than 1,048,576 items, and `Memory` for want of memory. The list
+    /// is then as it was.
+    pub fn lower_to(&mut self, threshold: u64) -> Result<(), SubFault>
+        requires lower { threshold ≤ self.old.threshold }
+        ensures gives { GivesAs (λ _. self.new) is_memory result (within_limit (lowered self.old threshold)) }
+        ensures older_first { OnOk result (take (length (items_of self.old)) (items_of self.new) ≡ items_of self.old) }
+        ensures unchanged { OnErr result (self.new ≡ self.old) }
+    {
+        let wanted = Wanted {
+            above: cutoff(self.before, &self.after, threshold),
+            up_to: cutoff(self.before, &self.after, self.threshold),
+            most: MAX_SUB_ISOTOPOLOGUES as usize - self.items.len(),
+        };
+        let alloc = *self.items.allocator();
+        let mut added = added_items(
+            alloc,
+            &self.weights,
+            &self.mode,
+            &self.items,
+            &self.unlisted,
+            wanted,
+        )?;
+        let unlisted = unlisted_bounds(
+            alloc,
+            &self.weights,
+            &self.mode,
+            &self.items,
+            &self.unlisted,
+            wanted,
+        )?;
+        self.items.append(&mut added)?;
+        self.unlisted = unlisted;
+        self.threshold = threshold;
+        Ok(())
+    }
+
+    /// The items of the list, by falling upper bound, ties in the lexicographic order of their counts.
+    pub fn items(&self) -> &[SubIso]
+        ensures items { result.now ≡ items_of self.now }
+        ensures few { length (items_of self.now) ≤ max_sub_isotopologues }
+
+        // What holds of the items.
+        ensures counts { All (λ i. IsCounts self.now.element.weights self.now.element.atoms i.counts) result.now }
+        ensures encloses { All (λ i. IsEnclosure i.lo i.hi
+            (weight_of self.now.element.weights self.now.element.atoms i.counts)
+            (total_of self.now.element.weights self.now.element.atoms)) result.now }
+        ensures falling { AllPairs (λ i j. j.hi ≤ i.hi) result.now }
+    {
+        &self.items
+    }
+
+    /// The place of the next item that was not given yet, the first being 0. None exactly where all were given.
+    pub fn next(&mut self) -> Option<usize>
+        ensures next { MatchOption result (places_left self.old ≡ []) (λ place.
+            places_left self.old ≡ place ∷ places_left self.new) }
+        ensures given { OnSome result (self.new ≡ with_given self.old (self.old.given + 1)) }
+        ensures unchanged { IfNone result (self.new ≡ self.old) }
+    {
+        if self.given == self.items.len() {
+            return None;
+        }
+        let place = self.given;
+        self.given += 1;
+        Some(place)
+    }
+
+    /// How many items were given, with which `resume` goes on.
+    pub fn token(&self) -> u64
+        ensures value { result ≡ self.now.given }
+        ensures within { result ≤ length (items_of self.now) }
+    {
+        self.given as u64
+    }
+
+    /// The list of `start` lowered to a threshold, of which so many items were given: `next` gives exactly the others.
+    ///
+    /// `TooMany` exactly where the list has more than 1,048,576 items, else `NotInList` exactly where the token is
+    /// greater than their number; `Memory` for want of memory.
+    pub fn resume(
+        alloc: Global,
+        weights: &[u64],
+        atoms: u32,
+        threshold: u64,
+        others: Others<'_>,
+        token: u64,
+    ) -> Result<SubIsos, SubFault>
+        requires weights_in_range { IsWeights weights.now }
+        requires few_atoms { atoms ≤ MAX_ATOMS }
+        requires at_most_one { threshold ≤ certainty }
+        requires others_in_range { AreOthers others.before others.after.now }
+        ensures { Gives is_memory result
+            (resumed (listing_of weights.now atoms others.entry.before others.entry.after.now threshold) token) }
+    {
+        let mut list = SubIsos::start(alloc, weights, atoms, others)?;
+        list.lower_to(threshold)?;
+        if token > list.items.len() as u64 {
+            return Err(SubFault::NotInList);
+        }
+        list.given = token as usize;
+        Ok(list)
+    }
+}
