@@ -8,7 +8,7 @@ use Rattle.std.proofs.lemmas.List.Elements.{All-contains, All-filter, All-from_r
 use Rattle.std.proofs.lemmas.List.Elements.{Contains-append_right, filter_passes}
 use Rattle.std.proofs.lemmas.List.Kept.{AllPairs-cons, AllPairs-filter}
 use Rattle.mass_scaling.specs.declared.windows.Window.{Window}
-use Rattle.decompose.specs.Masses.{mass_of}
+use Rattle.mass_scaling.specs.Masses.{mass_of}
 use Rattle.decompose.specs.CountLists.{IsInBox, box_of, comes_after}
 use Rattle.decompose.specs.Enumeration.{is_within, vectors}
 use Rattle.decompose.specs.declared.limits.Limit.{Limit}

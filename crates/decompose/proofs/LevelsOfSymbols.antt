@@ -10,9 +10,11 @@ use Rattle.std.proofs.lemmas.Bool.{cases_lt, and_left, and_right, lt-leb}
 use Rattle.std.proofs.lemmas.Nat.{le-div, mod-mul-add, div-add-mod'}
 use Rattle.std.proofs.Math.Nat.{mul-le-mul_right}
 use Rattle.decompose.specs.Enumeration.{is_within}
-use Rattle.std.proofs.lemmas.List.{get_or-map, length-map}
-use Rattle.decompose.specs.Masses.{AreMasses}
-use Rattle.decompose.specs.Levels.{symbols_of, levels_of, masses_of, limits_of, counts_of, IsLevel, IsFirstWithin}
+use Rattle.std.proofs.lemmas.List.{length-map}
+use Rattle.mass_scaling.specs.declared.limits.TheConstants.{MIN_MASS, MAX_SCALED_MASS}
+use Rattle.decompose.specs.CountLists.{IsLimit}
+use Rattle.decompose.specs.Levels.{IsSymbol, IsLevel, IsFirstWithin, scaled_masses_of, symbols_of, levels_of}
+use Rattle.decompose.specs.Levels.{masses_of, limits_of, counts_of}
 use Rattle.decompose.specs.Levels.{NoneIsWithin}
 use Rattle.decompose.specs.declared.limits.Limit.{Limit}
 use Rattle.decompose.specs.declared.levels.Symbol.{Symbol}
@@ -143,32 +145,58 @@ counts_more (v ∷ vs) (c ∷ cs) (suc place) d h e =
     let one_more : suc place + 1 ≡ suc (place + 1) = omega arith in
     rw one_more (ap (λ xs. v.count ∷ xs) (counts_more vs cs place d (omega arith) (omega arith)))
 
--- the symbols of masses and limits
-pub masses_are : (masses : List ℕ) (limits : List Limit) → length limits ≡ length masses →
-    masses_of (symbols_of masses limits) ≡ masses
-masses_are [] limits e = refl
-masses_are (m ∷ ms) [] e = absurd (omega arith)
-masses_are (m ∷ ms) (l ∷ ls) e = ap (λ xs. m ∷ xs) (masses_are ms ls (omega arith))
+-- the symbols of masses, scaled masses and limits
+pub masses_are : (masses scaled : List ℕ) (limits : List Limit) → length scaled ≡ length masses →
+    length limits ≡ length masses → masses_of (symbols_of masses scaled limits) ≡ masses
+masses_are [] scaled limits e f = refl
+masses_are (m ∷ ms) [] limits e f = absurd (omega arith)
+masses_are (m ∷ ms) (a ∷ as_) [] e f = absurd (omega arith)
+masses_are (m ∷ ms) (a ∷ as_) (l ∷ ls) e f =
+    ap (λ xs. m ∷ xs) (masses_are ms as_ ls (omega arith) (omega arith))
 
-pub limits_are : (masses : List ℕ) (limits : List Limit) → length limits ≡ length masses →
-    limits_of (symbols_of masses limits) ≡ limits
-limits_are [] [] e = refl
-limits_are [] (l ∷ ls) e = absurd (omega arith)
-limits_are (m ∷ ms) [] e = absurd (omega arith)
-limits_are (m ∷ ms) (l ∷ ls) e = ap (λ xs. l ∷ xs) (limits_are ms ls (omega arith))
+pub scaled_are : (masses scaled : List ℕ) (limits : List Limit) → length scaled ≡ length masses →
+    length limits ≡ length masses → scaled_masses_of (symbols_of masses scaled limits) ≡ scaled
+scaled_are [] [] limits e f = refl
+scaled_are [] (a ∷ as_) limits e f = absurd (omega arith)
+scaled_are (m ∷ ms) [] limits e f = absurd (omega arith)
+scaled_are (m ∷ ms) (a ∷ as_) [] e f = absurd (omega arith)
+scaled_are (m ∷ ms) (a ∷ as_) (l ∷ ls) e f =
+    ap (λ xs. a ∷ xs) (scaled_are ms as_ ls (omega arith) (omega arith))
 
-pub length_are : (masses : List ℕ) (limits : List Limit) → length limits ≡ length masses →
-    length (symbols_of masses limits) ≡ length masses
-length_are masses limits e =
-    sym (length-map (symbols_of masses limits) (λ symbol. symbol.mass)) ∙ ap length (masses_are masses limits e)
+pub limits_are : (masses scaled : List ℕ) (limits : List Limit) → length scaled ≡ length masses →
+    length limits ≡ length masses → limits_of (symbols_of masses scaled limits) ≡ limits
+limits_are [] scaled [] e f = refl
+limits_are [] scaled (l ∷ ls) e f = absurd (omega arith)
+limits_are (m ∷ ms) [] limits e f = absurd (omega arith)
+limits_are (m ∷ ms) (a ∷ as_) [] e f = absurd (omega arith)
+limits_are (m ∷ ms) (a ∷ as_) (l ∷ ls) e f =
+    ap (λ xs. l ∷ xs) (limits_are ms as_ ls (omega arith) (omega arith))
 
-pub positive_are : (masses : List ℕ) (limits : List Limit) → length limits ≡ length masses → AreMasses masses →
-    All (λ symbol. 0 < symbol.mass) (symbols_of masses limits)
-positive_are masses limits e h = λ k d w.
-    let mass : (get_or (symbols_of masses limits) k d).mass ≡ get_or masses k 0 =
-    sym (get_or-map (λ symbol. symbol.mass) (symbols_of masses limits) k d 0 w)
-    ∙ ap (λ xs. get_or xs k 0) (masses_are masses limits e) in
-    omega (arith, h.lower_limit k 0 (omega (arith, length_are masses limits e)), mass)
+pub length_are : (masses scaled : List ℕ) (limits : List Limit) → length scaled ≡ length masses →
+    length limits ≡ length masses → length (symbols_of masses scaled limits) ≡ length masses
+length_are masses scaled limits e f =
+    sym (length-map (symbols_of masses scaled limits) (λ symbol. symbol.mass))
+    ∙ ap length (masses_are masses scaled limits e f)
+
+all_cons : {X : Type 0} (P : X → Type 0) (x : X) (xs : List X) → P x → All P xs → All P (x ∷ xs)
+all_cons P x xs h k zero d w = h
+all_cons P x xs h k (suc n) d w = k n d (omega arith)
+
+pub symbols_are_ok : (masses scaled : List ℕ) (limits : List Limit) → length scaled ≡ length masses →
+    length limits ≡ length masses → All (λ m. MIN_MASS ≤ m) masses → All (λ a. a ≤ MAX_SCALED_MASS) scaled →
+    All IsLimit limits → All IsSymbol (symbols_of masses scaled limits)
+symbols_are_ok [] scaled limits e f heavy light ok = λ k d w. absurd (omega arith)
+symbols_are_ok (m ∷ ms) [] limits e f heavy light ok = absurd (omega arith)
+symbols_are_ok (m ∷ ms) (a ∷ as_) [] e f heavy light ok = absurd (omega arith)
+symbols_are_ok (m ∷ ms) (a ∷ as_) (l ∷ ls) e f heavy light ok =
+    all_cons IsSymbol record { mass = m; scaled = a; limit = l } (symbols_of ms as_ ls)
+    record {
+      positive = omega (arith, heavy 0 0 (omega arith));
+      scaled_in_range = light 0 0 (omega arith);
+      limit = ok 0 l (omega arith);
+    }
+    (symbols_are_ok ms as_ ls (omega arith) (omega arith) (λ k d w. heavy (suc k) d (omega arith))
+    (λ k d w. light (suc k) d (omega arith)) (λ k d w. ok (suc k) d (omega arith)))
 
 pub counts_are : (window : Window) (counts : List ℕ) → counts_of (levels_of window counts) ≡ counts
 counts_are window [] = refl

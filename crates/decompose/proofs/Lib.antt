@@ -6,6 +6,7 @@ pub mod SearchSteps
 pub mod FirstOfSlice
 pub mod WalkSteps
 pub mod WalkClimbs
+pub mod ProbeSteps
 pub mod NextGiven
 pub mod WalkKept
 pub mod EachListOnce

@@ -10,7 +10,7 @@ use Rattle.std.proofs.lemmas.Bool.{cases_lt, and_left, and_right, le-leb, lt-leb
 use Rattle.std.proofs.lemmas.Bool.Decides.{nat_tests}
 use Rattle.std.proofs.lemmas.Nat.{le-div}
 use Rattle.std.proofs.Math.Nat.{div-mul-le_self, mul-le-mul_right}
-use Rattle.decompose.specs.Masses.{mass_of}
+use Rattle.mass_scaling.specs.Masses.{mass_of}
 use Rattle.decompose.specs.CountLists.{IsInBox, box_of}
 use Rattle.decompose.specs.Enumeration.{is_within}
 use Rattle.decompose.specs.Levels.{window_less}

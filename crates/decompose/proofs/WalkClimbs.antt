@@ -4,10 +4,10 @@ use Rattle.std.proofs.Common.{◌∷◌, ◌++◌, take, drop, refl, ap, ◌∙�
 use Rattle.std.specs.List.{All}
 use Rattle.std.specs.List.{find}
 use Rattle.std.proofs.lemmas.Bool.{and_right, cases_lt}
-use Rattle.decompose.specs.CountLists.{IsLimit, IsInBox, box_of}
+use Rattle.decompose.specs.CountLists.{IsInBox, box_of}
 use Rattle.decompose.specs.Enumeration.{is_within}
 use Rattle.decompose.specs.Search.{follows, is_left}
-use Rattle.decompose.specs.Levels.{AreLevels, window_at, masses_of, limits_of, counts_of}
+use Rattle.decompose.specs.Levels.{IsSymbol, AreLevels, window_at, masses_of, limits_of, counts_of}
 use Rattle.decompose.specs.Walk.{limits_from, StandsAt}
 use Rattle.decompose.specs.declared.limits.TheConstants.{MAX_COUNT}
 use Rattle.decompose.specs.declared.limits.Limit.{Limit}
@@ -147,14 +147,14 @@ window_ordered (s ∷ ss) window (v ∷ vs) (suc place) h ordered =
 
 -- a count of the levels is within its limit
 pub count_below : (symbols : List Symbol) (levels : List Level) (place : ℕ) (d : Level) →
-    IsInBox (limits_of symbols) (counts_of levels) → All IsLimit (limits_of symbols) → place < length levels →
+    IsInBox (limits_of symbols) (counts_of levels) → All IsSymbol symbols → place < length levels →
     (get_or levels place d).count ≤ MAX_COUNT
-count_below [] [] place d box limits h = absurd (omega arith)
-count_below [] (v ∷ vs) place d box limits h = absurd box
-count_below (s ∷ ss) [] place d box limits h = absurd box
-count_below (s ∷ ss) (v ∷ vs) zero d box limits h = omega (arith, box.1, (limits 0 s.limit (omega arith)).bounded)
-count_below (s ∷ ss) (v ∷ vs) (suc place) d box limits h =
-    count_below ss vs place d box.2 (λ k l w. limits (suc k) l (omega arith)) (omega arith)
+count_below [] [] place d box ok h = absurd (omega arith)
+count_below [] (v ∷ vs) place d box ok h = absurd box
+count_below (s ∷ ss) [] place d box ok h = absurd box
+count_below (s ∷ ss) (v ∷ vs) zero d box ok h = omega (arith, box.1, (ok 0 s (omega arith)).limit.bounded)
+count_below (s ∷ ss) (v ∷ vs) (suc place) d box ok h =
+    count_below ss vs place d box.2 (λ k l w. ok (suc k) l (omega arith)) (omega arith)
 
 -- the walk has nowhere to go from the empty list
 pub stands_empty : (symbols : List Symbol) (window : Window) (levels : List Level) → length symbols ≡ 0 →

@@ -1,6 +1,6 @@
 -- The count lists of a window of mass, and an enumeration of them.
 use Rattle.std.specs.Prelude.{ℕ, Bool, ◌&&◌, nat_le, List, Option, Some, None, filter}
-use Rattle.decompose.specs.Masses.{mass_of}
+use Rattle.mass_scaling.specs.Masses.{mass_of}
 use Rattle.decompose.specs.CountLists.{box_of, comes_after}
 use Rattle.decompose.specs.declared.limits.Limit.{Limit}
 use Rattle.mass_scaling.specs.declared.windows.Window.{Window}

@@ -2,21 +2,33 @@
 use Rattle.std.specs.Prelude.{ℕ, zero, suc, ◌≡◌, ◌-◌, ◌*◌, ◌<◌, ◌≤◌, false, List, [], ◌∷◌, map}
 use Rattle.std.specs.List.{zip}
 use Rattle.mass_scaling.specs.declared.windows.Window.{Window}
+use Rattle.mass_scaling.specs.declared.limits.TheConstants.{MAX_SCALED_MASS}
+use Rattle.decompose.specs.CountLists.{IsLimit}
 use Rattle.decompose.specs.Enumeration.{is_within}
 use Rattle.decompose.specs.declared.limits.Limit.{Limit}
 use Rattle.decompose.specs.declared.levels.Symbol.{Symbol}
 use Rattle.decompose.specs.declared.levels.Level.{Level}
 
--- the masses of symbols, and the limits of their counts
+-- the masses of symbols, their scaled masses, and the limits of their counts
 abbrev pub masses_of : List Symbol → List ℕ
 masses_of symbols = map (λ symbol. symbol.mass) symbols
+
+abbrev pub scaled_masses_of : List Symbol → List ℕ
+scaled_masses_of symbols = map (λ symbol. symbol.scaled) symbols
 
 abbrev pub limits_of : List Symbol → List Limit
 limits_of symbols = map (λ symbol. symbol.limit) symbols
 
--- a symbol for each mass and limit
-abbrev pub symbols_of : List ℕ → List Limit → List Symbol
-symbols_of masses limits = map (λ p. record { mass = p.0; limit = p.1 }) (zip masses limits)
+-- a symbol for each mass, scaled mass and limit
+abbrev pub symbols_of : List ℕ → List ℕ → List Limit → List Symbol
+symbols_of masses scaled limits =
+    map (λ p. record { mass = p.0.0; scaled = p.0.1; limit = p.1 }) (zip (zip masses scaled) limits)
+
+-- a symbol: it has a mass above 0, a scaled mass of at most 10^11 grains, and a limit
+pub record IsSymbol (symbol : Symbol) : Type 0 where
+  pub positive : 0 < symbol.mass
+  pub scaled_in_range : symbol.scaled ≤ MAX_SCALED_MASS
+  pub limit : IsLimit symbol.limit
 
 -- a level for each count, below the whole window
 abbrev pub levels_of : Window → List ℕ → List Level

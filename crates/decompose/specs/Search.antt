@@ -2,7 +2,7 @@
 use Rattle.std.specs.Prelude.{ℕ, ◌≡◌, Bool, true, ◌&&◌, List, length, All, Option, Some, None, IfSome}
 use Rattle.mass_scaling.specs.declared.windows.Window.{Window}
 use Rattle.mass_scaling.specs.Windows.{IsWindow}
-use Rattle.decompose.specs.Masses.{mass_of}
+use Rattle.mass_scaling.specs.Masses.{mass_of}
 use Rattle.decompose.specs.CountLists.{IsLimit, IsInBox, comes_after}
 use Rattle.decompose.specs.Enumeration.{Enumeration, is_within}
 use Rattle.decompose.specs.declared.limits.Limit.{Limit}

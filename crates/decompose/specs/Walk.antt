@@ -1,11 +1,13 @@
 -- For proofs alone: where the walk over the count lists of a window stands, and what it finds.
-use Rattle.std.specs.Prelude.{ℕ, zero, suc, ◌≡◌, ◌<◌, Bool, List, [], ◌∷◌, length, All, Option, Some, None, IfSome}
-use Rattle.std.specs.Prelude.{MatchBool}
+use Rattle.std.specs.Prelude.{ℕ, zero, suc, ◌≡◌, Bool, List, [], ◌∷◌, length, All, Option, Some, None, IfSome}
+use Rattle.std.specs.Prelude.{MatchBool, MatchOption}
 use Rattle.std.specs.List.{find}
 use Rattle.mass_scaling.specs.declared.windows.Window.{Window}
 use Rattle.decompose.specs.CountLists.{box_of}
 use Rattle.decompose.specs.Search.{IsEnumeration, enumeration, is_left}
-use Rattle.decompose.specs.Levels.{IsLevel, AreLevels, masses_of, limits_of, counts_of}
+use Rattle.mass_scaling.specs.Scales.{scaled_of}
+use Rattle.decompose.specs.Levels.{IsSymbol, IsLevel, AreLevels, masses_of, scaled_masses_of, limits_of, counts_of}
+use Rattle.decompose.specs.Probes.{HasNoList, IsScaledWindow}
 use Rattle.decompose.specs.declared.limits.Limit.{Limit}
 use Rattle.decompose.specs.declared.levels.Symbol.{Symbol}
 use Rattle.decompose.specs.declared.levels.Level.{Level}
@@ -39,12 +41,14 @@ abbrev pub given_of : Option ℕ → List ℕ → Option (List ℕ)
 given_of None counts = None
 given_of (Some depth) counts = Some counts
 
--- what a walk over these masses keeps: a symbol for each, a level for each symbol, and, once a list was given, where
--- the walk stands
-pub record IsWalk (masses : List ℕ) (symbols : List Symbol) (window : Window) (levels : List Level)
-    (stands : Option ℕ) : Type 0 where
+-- what a walk over these masses keeps: a symbol for each, a level for each symbol, the window of scaled masses, and,
+-- once a list was given, where the walk stands
+pub record IsWalk (masses : List ℕ) (symbols : List Symbol) (window : Window) (scaled : Option Window)
+    (levels : List Level) (stands : Option ℕ) : Type 0 where
   pub masses_are : masses_of symbols ≡ masses
-  pub positive : All (λ symbol. 0 < symbol.mass) symbols
+  pub scaled_are : scaled_masses_of symbols ≡ scaled_of masses
+  pub symbols_ok : All IsSymbol symbols
   pub one_level_each : length levels ≡ length symbols
   pub enumerates : IsEnumeration (enumeration masses (limits_of symbols) window (given_of stands (counts_of levels)))
+  pub scaled_window : MatchOption scaled (HasNoList symbols window) (IsScaledWindow symbols window)
   pub stands_at : IfSome stands (StandsAt symbols window levels)

@@ -3,7 +3,7 @@ ghost use Rattle.std.specs.Prelude.{◌≡◌, ◌<◌, ◌↔◌, ℕ, List, []
 ghost use Rattle.std.specs.Prelude.{IfOk, OnOk, IsErrOf, IsSomeAnd, Some, None, MatchBool};
 ghost use Rattle.std.specs.Bool.{OnTrue, OnFalse};
 ghost use Rattle.std.specs.List.{find};
-ghost use Rattle.decompose.specs.Masses.{mass_of};
+ghost use Rattle.mass_scaling.specs.Masses.{mass_of};
 ghost use Rattle.decompose.specs.CountLists.{IsLimit, IsInBox, box_of, comes_after};
 ghost use Rattle.decompose.specs.Enumeration.{vectors, lists_after, left, is_within};
 ghost use Rattle.decompose.specs.Search.{is_left};
@@ -14,6 +14,7 @@ use crate::faults::ResumeFault;
 use crate::levels::{Level, Symbol, counts_of, levels_of, symbols_of, write_counts};
 use crate::limits::Limit;
 use crate::mass_tables::Tables;
+use crate::probes::scaled_window_of;
 use crate::walk::{find_left, stand_at};
 use mass_scaling::Window;
 use outside_ports::Steps;
@@ -30,6 +31,8 @@ pub struct Decomps<'t> {
     tables: &'t Tables,
     symbols: Vec<Symbol>,
     window: Window,
+    /// The window of scaled masses; None where no count list has its mass in the window.
+    scaled: Option<Window>,
     /// A level for each symbol: their counts are the list given last, once one was given.
     levels: Vec<Level>,
     /// At how many levels the walk stands, once a list was given: no list with their counts is left.
@@ -48,7 +51,7 @@ impl<'t> Model for Decomps<'t> {
     ghost view = { λ d. enumeration d.tables.now (limits_of d.symbols.items) d.window
         (given_of d.stands (counts_of d.levels.items)) };
 
-    ghost invariant = { λ d. IsWalk d.tables.now d.symbols.items d.window d.levels.items d.stands };
+    ghost invariant = { λ d. IsWalk d.tables.now d.symbols.items d.window d.scaled d.levels.items d.stands };
 }
 
 /// Whether these counts are within the limits, one for each.
@@ -80,7 +83,7 @@ impl<'t> Decomps<'t> {
             ↔ (IsInBox limits.now cs × IsTrue (is_within window (mass_of tables.now cs))) }
         ensures rising { AllPairs (λ a b. IsTrue (comes_after a b)) (vectors tables.now limits.now window) }
     {
-        let symbols = symbols_of(alloc, &tables.masses, limits)?;
+        let symbols = symbols_of(alloc, &tables.masses, tables.scale.scaled(), limits)?;
         let levels = vec![in alloc; Level {
             count: 0,
             left: window
@@ -89,6 +92,7 @@ impl<'t> Decomps<'t> {
             tables,
             symbols,
             window,
+            scaled: scaled_window_of(tables, window),
             levels,
             stands: None,
         })
@@ -118,13 +122,14 @@ impl<'t> Decomps<'t> {
         if !is_in_box(limits, after.counts()) {
             return Err(ResumeFault::NotInBox);
         }
-        let symbols = symbols_of(alloc, &tables.masses, limits)?;
+        let symbols = symbols_of(alloc, &tables.masses, tables.scale.scaled(), limits)?;
         let mut levels = levels_of(alloc, window, after.counts())?;
         let depth = stand_at(&symbols, window, &mut levels);
         Ok(Decomps {
             tables,
             symbols,
             window,
+            scaled: scaled_window_of(tables, window),
             levels,
             stands: Some(depth),
         })
@@ -143,7 +148,7 @@ impl<'t> Decomps<'t> {
     }
 
     /// Walks on to the first list that is left; false where none is.
-    fn walk_on(&mut self) -> bool
+    fn walk_on<L: Ledger>(&mut self, steps: &mut Steps<L>) -> bool
         ensures { MatchBool result
             (IsSomeAnd self.new.given (λ next.
             (find (is_left self.old.masses self.old.window self.old.given) (box_of self.old.limits) ≡ Some next)
@@ -151,7 +156,17 @@ impl<'t> Decomps<'t> {
             ((find (is_left self.old.masses self.old.window self.old.given) (box_of self.old.limits) ≡ None)
             × (self.new ≡ self.old)) }
     {
-        if find_left(&self.symbols, self.window, self.stands, &mut self.levels) {
+        let tables = self.tables;
+        let residues = &tables.residues;
+        if find_left(
+            residues,
+            &self.symbols,
+            self.window,
+            self.scaled,
+            self.stands,
+            &mut self.levels,
+            steps,
+        ) {
             self.stands = Some(self.levels.len());
             return true;
         }
@@ -174,7 +189,7 @@ impl<'t> Decomps<'t> {
         ensures out_unchanged { OnFalse result (out.new ≡ out.old) }
         ensures length { length out.new ≡ length out.old }
     {
-        if !self.walk_on() {
+        if !self.walk_on(steps) {
             return false;
         }
         write_counts(&self.levels, &mut out.counts);

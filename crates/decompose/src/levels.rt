@@ -7,10 +7,12 @@ use crate::limits::Limit;
 use mass_scaling::Window;
 use std::alloc::{AllocError, Global};
 
-/// What the walk knows of a symbol: its mass, in 10^-12 Da, and how many atoms of it a formula may have.
+/// What the walk knows of a symbol: its mass, in 10^-12 Da, its scaled mass, and how many atoms of it a
+/// formula may have.
 #[derive(Clone, Copy, Debug)]
 pub(crate) struct Symbol {
     pub(crate) mass: u64,
+    pub(crate) scaled: u64,
     pub(crate) limit: Limit,
 }
 
@@ -21,19 +23,22 @@ pub(crate) struct Level {
     pub(crate) left: Window,
 }
 
-/// The symbols of these masses and limits.
+/// The symbols of these masses, scaled masses and limits.
 pub(crate) fn symbols_of(
     alloc: Global,
     masses: &[u64],
+    scaled: &[u64],
     limits: &[Limit],
 ) -> Result<Vec<Symbol>, AllocError>
-    ensures { IfOk result (λ symbols. symbols.items ≡ symbols_of masses.now limits.now) }
+    ensures { IfOk result (λ symbols. symbols.items ≡ symbols_of masses.now scaled.now limits.now) }
 {
     masses
         .iter()
+        .zip(scaled)
         .zip(limits)
-        .map(|(mass, limit)| Symbol {
+        .map(|((mass, scaled), limit)| Symbol {
             mass: *mass,
+            scaled: *scaled,
             limit: *limit,
         })
         .collect(alloc)
@@ -70,6 +75,16 @@ pub(crate) fn write_counts(levels: &[Level], counts: &mut [u32])
 {
     for (place, level) in levels.iter().enumerate() {
         counts[place] = level.count;
+    }
+}
+
+/// What a mass leaves of a window; of one that ends below it 0 alone.
+pub(crate) fn window_less(window: Window, taken: u64) -> Window
+    ensures { result ≡ window_less window taken }
+{
+    Window {
+        lo: window.lo.saturating_sub(taken),
+        hi: window.hi.saturating_sub(taken),
     }
 }
 

@@ -1,6 +1,6 @@
 //! Enumerations held against lists that were filtered from whole boxes, and their tokens.
 ghost use Rattle.std.specs.Prelude.{◌≡◌, ◌<◌, ◌≤◌, ℕ, length, IfOk};
-ghost use Rattle.decompose.specs.Masses.{AreMasses};
+ghost use Rattle.mass_scaling.specs.Masses.{AreMasses};
 
 mod plain_search;
 
@@ -265,5 +265,38 @@ fn the_walk_gives_what_the_plain_search_finds(rt: HostRuntime) -> Result<(), Fai
         let found = plain_search::lists_of(alloc, &masses, &UP_TO_MAX, window, 1_000)?;
         assert_eq!(rt; walked.as_slice(), found.as_slice(), "from {da} Da");
     }
+    Ok(())
+}
+
+/// Eight symbols of 17, 16, down to 10 Da.
+fn seventeen_to_ten(alloc: Global) -> Result<Tables, ScaleFault>
+    ensures { IfOk result (λ t. length t ≡ 8) }
+{
+    let masses = [
+        17_000_000_000_000,
+        16_000_000_000_000,
+        15_000_000_000_000,
+        14_000_000_000_000,
+        13_000_000_000_000,
+        12_000_000_000_000,
+        11_000_000_000_000,
+        10_000_000_000_000,
+    ];
+    Tables::of(alloc, &masses)
+}
+
+// All scaled masses are multiples of 100,000 grains, and the mass is half a dalton off. A walk that prunes
+// by mass alone meets more than 10^12 lists here.
+#[test]
+fn a_mass_that_no_scaled_masses_add_up_to_ends_at_once(rt: HostRuntime) -> Result<(), Fail> {
+    let alloc = rt.alloc();
+    let tables = seventeen_to_ten(alloc)?;
+    let limits = [Limit {
+        low: 0,
+        high: MAX_COUNT,
+    }; 8];
+    let mass = 10_000_500_000_000_000;
+    let mut decomps = Decomps::start(alloc, &tables, &limits, Window { lo: mass, hi: mass })?;
+    assert_eq!(rt; gather(alloc, &mut decomps, 8)?.as_slice(), [].as_slice());
     Ok(())
 }

@@ -1,14 +1,19 @@
 //! The walk over the count lists of a window, in lexicographic order.
-ghost use Rattle.std.specs.Prelude.{◌≡◌, ◌<◌, ◌≤◌, [], ◌∷◌, length, All, Some, None, MatchBool, IfSome};
+ghost use Rattle.std.specs.Prelude.{◌≡◌, ◌<◌, ◌≤◌, [], ◌∷◌, length, All, Some, None, MatchBool, MatchOption, IfSome};
 ghost use Rattle.std.specs.Bool.{OnTrue, OnFalse};
 ghost use Rattle.std.specs.List.{find};
-ghost use Rattle.decompose.specs.CountLists.{IsLimit, IsInBox, box_of};
+ghost use Rattle.decompose.specs.CountLists.{IsInBox, box_of};
 ghost use Rattle.decompose.specs.Search.{is_left};
-ghost use Rattle.decompose.specs.Levels.{AreLevels, window_at, masses_of, limits_of, counts_of};
+ghost use Rattle.decompose.specs.Levels.{IsSymbol, AreLevels, window_at, masses_of, limits_of, counts_of};
+ghost use Rattle.decompose.specs.Probes.{IsScaledWindow, KnowsScaled, HasNoList};
 ghost use Rattle.decompose.specs.Walk.{limits_from, FindsFirst, StandsAt, given_of};
 
-use crate::levels::{Level, Symbol};
+use crate::levels::{Level, Symbol, window_less};
+use crate::probes::{may_fill, scaled_at};
 use mass_scaling::Window;
+use outside_ports::Steps;
+use residue_table::Residues;
+use std::sync::ledger::Ledger;
 
 /// The least count of the first of these symbols, if there is one.
 fn first_low(symbols: &[Symbol]) -> u32
@@ -58,10 +63,23 @@ fn find_in_pair(
 
 /// Writes into `levels` the first list over these symbols whose mass is in the window, from this count
 /// of the first symbol on; false where there is none, and the levels are then as before.
-fn find_from(symbols: &[Symbol], window: Window, count: u32, levels: &mut [Level]) -> bool
+///
+/// It goes down below a count only where a probe tells that the symbols below may fill what is left of
+/// the scaled window. The last two symbols need no probes.
+fn find_from<L: Ledger>(
+    residues: &Residues,
+    symbols: &[Symbol],
+    window: Window,
+    scaled: Window,
+    count: u32,
+    levels: &mut [Level],
+    steps: &mut Steps<L>,
+) -> bool
     requires one_level_each { length levels.old ≡ length symbols.now }
-    requires positive { All (λ symbol. 0 < symbol.mass) symbols.now }
+    requires symbols { All IsSymbol symbols.now }
     requires ordered { window.lo ≤ window.hi }
+    requires scaled { IsScaledWindow symbols.now window scaled }
+    requires knows { KnowsScaled residues.now symbols.now }
     ensures { FindsFirst symbols.now count window result levels.old levels.new }
 {
     let Some((symbol, below)) = symbols.split_first() else {
@@ -74,8 +92,19 @@ fn find_from(symbols: &[Symbol], window: Window, count: u32, levels: &mut [Level
         return false;
     };
     let low = first_low(below);
+    let mut rest = window_less(scaled, u64::from(level.count) * symbol.scaled);
     'counts: loop {
-        if find_from(below, level.left, low, &mut levels[1..]) {
+        if may_fill(residues, below, rest, steps)
+            && find_from(
+                residues,
+                below,
+                level.left,
+                rest,
+                low,
+                &mut levels[1..],
+                steps,
+            )
+        {
             levels[0] = level;
             return true;
         }
@@ -83,22 +112,33 @@ fn find_from(symbols: &[Symbol], window: Window, count: u32, levels: &mut [Level
             return false;
         };
         level = raised;
+        rest = window_less(rest, symbol.scaled);
     }
 }
 
 /// Writes into `levels` the first list over these symbols whose mass is in the window; false where there
 /// is none, and the levels are then as before.
-fn find_first(symbols: &[Symbol], window: Window, levels: &mut [Level]) -> bool
+fn find_first<L: Ledger>(
+    residues: &Residues,
+    symbols: &[Symbol],
+    window: Window,
+    scaled: Window,
+    levels: &mut [Level],
+    steps: &mut Steps<L>,
+) -> bool
     requires one_level_each { length levels.old ≡ length symbols.now }
-    requires positive { All (λ symbol. 0 < symbol.mass) symbols.now }
+    requires symbols { All IsSymbol symbols.now }
     requires ordered { window.lo ≤ window.hi }
+    requires scaled { IsScaledWindow symbols.now window scaled }
+    requires knows { KnowsScaled residues.now symbols.now }
     ensures { MatchBool result
         ((find (is_left (masses_of symbols.now) window None) (box_of (limits_of symbols.now))
         ≡ Some (counts_of levels.new)) × AreLevels symbols.now window levels.new)
         ((find (is_left (masses_of symbols.now) window None) (box_of (limits_of symbols.now)) ≡ None)
         × (levels.new ≡ levels.old)) }
 {
-    find_from(symbols, window, first_low(symbols), levels)
+    let low = first_low(symbols);
+    find_from(residues, symbols, window, scaled, low, levels, steps)
 }
 
 /// What the levels before this one leave of the window.
@@ -118,11 +158,20 @@ fn window_at(window: Window, levels: &[Level], place: usize) -> Window
 /// walk stands at the first `depth` levels.
 ///
 /// It goes on at the last level where it stands, and at those before only as the counts there are done.
-fn find_next(symbols: &[Symbol], window: Window, depth: usize, levels: &mut [Level]) -> bool
+fn find_next<L: Ledger>(
+    residues: &Residues,
+    symbols: &[Symbol],
+    window: Window,
+    scaled: Window,
+    depth: usize,
+    levels: &mut [Level],
+    steps: &mut Steps<L>,
+) -> bool
     requires one_level_each { length levels.old ≡ length symbols.now }
-    requires positive { All (λ symbol. 0 < symbol.mass) symbols.now }
+    requires symbols { All IsSymbol symbols.now }
     requires ordered { window.lo ≤ window.hi }
-    requires limits { All IsLimit (limits_of symbols.now) }
+    requires scaled { IsScaledWindow symbols.now window scaled }
+    requires knows { KnowsScaled residues.now symbols.now }
     requires stands { StandsAt symbols.now window levels.old depth }
     requires in_box { IsInBox (limits_of symbols.now) (counts_of levels.old) }
     ensures { MatchBool result
@@ -136,8 +185,17 @@ fn find_next(symbols: &[Symbol], window: Window, depth: usize, levels: &mut [Lev
     while 0 < place {
         place -= 1;
         let left = window_at(window, levels, place);
+        let rest = scaled_at(symbols, levels, scaled, place);
         let count = levels[place].count + 1;
-        if find_from(&symbols[place..], left, count, &mut levels[place..]) {
+        if find_from(
+            residues,
+            &symbols[place..],
+            left,
+            rest,
+            count,
+            &mut levels[place..],
+            steps,
+        ) {
             return true;
         }
     }
@@ -147,16 +205,20 @@ fn find_next(symbols: &[Symbol], window: Window, depth: usize, levels: &mut [Lev
 /// Writes into `levels` the first list over these symbols whose mass is in the window and which is
 /// left: where the walk stands at some levels, those that come after their counts, and else all. False
 /// where there is none, and the levels are then as before.
-pub(crate) fn find_left(
+pub(crate) fn find_left<L: Ledger>(
+    residues: &Residues,
     symbols: &[Symbol],
     window: Window,
+    scaled: Option<Window>,
     stands: Option<usize>,
     levels: &mut [Level],
+    steps: &mut Steps<L>,
 ) -> bool
     requires one_level_each { length levels.old ≡ length symbols.now }
-    requires positive { All (λ symbol. 0 < symbol.mass) symbols.now }
+    requires symbols { All IsSymbol symbols.now }
     requires ordered { window.lo ≤ window.hi }
-    requires limits { All IsLimit (limits_of symbols.now) }
+    requires scaled { MatchOption scaled (HasNoList symbols.now window) (IsScaledWindow symbols.now window) }
+    requires knows { KnowsScaled residues.now symbols.now }
     requires stands { IfSome stands (StandsAt symbols.now window levels.old) }
     requires in_box { IfSome (given_of stands (counts_of levels.old)) (IsInBox (limits_of symbols.now)) }
     ensures { MatchBool result
@@ -166,9 +228,12 @@ pub(crate) fn find_left(
         (box_of (limits_of symbols.now)) ≡ None)
         × (levels.new ≡ levels.old)) }
 {
+    let Some(scaled) = scaled else {
+        return false;
+    };
     match stands {
-        None => find_first(symbols, window, levels),
-        Some(depth) => find_next(symbols, window, depth, levels),
+        None => find_first(residues, symbols, window, scaled, levels, steps),
+        Some(depth) => find_next(residues, symbols, window, scaled, depth, levels, steps),
     }
 }
 

@@ -2,7 +2,7 @@
 use Rattle.std.proofs.Common.{◌≡◌, ℕ, ◌≤◌, ◌<◌, ◌-◌, List, length, map, get_or, [], sym, subst, le_trans, lit≤, arith}
 use Rattle.std.proofs.lemmas.List.{length-map, get_or-map}
 use Rattle.std.specs.List.{All}
-use Rattle.decompose.specs.Masses.{AreMasses, base_of}
+use Rattle.mass_scaling.specs.Masses.{AreMasses, base_of}
 use Rattle.decompose.specs.CountLists.{IsLimit}
 use Rattle.alphabet_text.specs.Alphabets.{IsAlphabet}
 use Rattle.alphabet_text.specs.declared.entries.AlphabetEntry.{AlphabetEntry}

@@ -13,7 +13,7 @@ use Rattle.mass_scaling.specs.declared.windows.Charged.{Charged}
 use Rattle.mass_scaling.specs.declared.windows.Window.{Window}
 use Rattle.decompose.specs.CountLists.{box_of}
 use Rattle.decompose.specs.Enumeration.{is_within, vectors}
-use Rattle.decompose.specs.Masses.{AreMasses, mass_of}
+use Rattle.mass_scaling.specs.Masses.{AreMasses, mass_of}
 use Rattle.decompose.specs.declared.limits.Limit.{Limit}
 use Rattle.written_items.specs.declared.item.Item.{Item}
 use Rattle.formula_text.specs.Formulas.{formula_in, formula_of, has_carbon, with_part, within_limits}

@@ -5,7 +5,7 @@ use Rattle.mass_scaling.specs.Tolerances.{within}
 use Rattle.mass_scaling.specs.declared.tolerances.Tolerance.{Tolerance}
 use Rattle.decompose.specs.CountLists.{box_of}
 use Rattle.decompose.specs.Enumeration.{Enumeration, left}
-use Rattle.decompose.specs.Masses.{mass_of}
+use Rattle.mass_scaling.specs.Masses.{mass_of}
 use Rattle.written_items.specs.declared.item.Item.{Item}
 use Rattle.formula_text.specs.Formulas.{formula_of}
 use Rattle.alphabet_text.specs.declared.entries.AlphabetEntry.{AlphabetEntry}

@@ -528,28 +528,16 @@ fn a_long_report_is_put_line_by_line_until_a_put_fails(rt: HostRuntime) -> Resul
     let mut shelf = shelf_with(alloc, LIGHT)?;
     assert_eq!(rt; run(alloc, &words, &mut shelf, &mut whole, &mut notes), 0);
     assert!(rt; whole.bytes().len() > 4096);
-    // The lines before a failing put, and the bytes that it takes.
-    for (call, taken) in [(122, 0), (122, 20), (40, 7), (2, 3)] {
+    // The lines before a failing put, its number, and how many bytes it takes.
+    for (before, call, taken) in [(121, 122, 0), (121, 122, 20), (39, 40, 7), (1, 2, 3)] {
         let mut shelf = shelf_with(alloc, LIGHT)?;
         let mut out = MemorySink::new(alloc, 16_384)?;
         out.fail_at(call, taken)?;
         let status = run(alloc, &words, &mut shelf, &mut out, &mut notes);
         assert!(rt; status == 8, "put {call}");
-        let mut lines = 1;
-        let mut received = 0;
-        for byte in whole.bytes() {
-            if lines < call {
-                received += 1;
-                if *byte == b'\n' {
-                    lines += 1;
-                }
-            }
-        }
-        let received = received + taken as usize;
-        assert!(rt;
-            received <= whole.bytes().len() && out.bytes() == &whole.bytes()[..received],
-            "put {call}"
-        );
+        assert!(rt; whole.bytes().starts_with(out.bytes()), "put {call}");
+        let lines = out.bytes().iter().filter(|byte| **byte == b'\n').count();
+        assert!(rt; lines == before, "put {call}");
     }
     Ok(())
 }

@@ -1,37 +1,65 @@
-use Rattle.std.proofs.Common.{length, suc, refl, ap, ◌∙◌, length-take, length-drop, arith, rules}
+use Rattle.std.proofs.Common.{◌≡◌, length, suc, refl, ◌∙◌, ap, None, length-take, length-drop, arith, rules}
+use Rattle.std.specs.List.{find}
+use Rattle.decompose.specs.CountLists.{box_of}
+use Rattle.decompose.specs.Search.{is_left}
+use Rattle.decompose.specs.Levels.{masses_of, limits_of}
 use Rattle.decompose.proofs.FirstOfSlice.{put_first, put_back}
-use Rattle.decompose.proofs.WalkSteps.{walk_begins_not, walk_finds, walk_goes_on, walk_ends, level_ordered, empty_found}
+use Rattle.decompose.proofs.ProbeSteps.{knows_below, scaled_below, none_without, less_more, scaled_fits}
+use Rattle.decompose.proofs.WalkSteps.{walk_begins_not, walk_finds, walk_goes_on, walk_ends}
+use Rattle.decompose.proofs.WalkSteps.{level_ordered, empty_found}
+use Rattle.decompose.proofs.walk.+find_from.Goals.{else-may_fill-via-then-may_fill+else-find_from}
+use Rattle.decompose.proofs.walk.+find_from.Goals.{else-may_fill-via-else-may_fill}
 use Rattle.decompose.proofs.walk.+find_from.Goals as goal
 
 pub returns-in_default : goal.returns-in_default
-returns-in_default t c =
+returns-in_default g t c =
     empty_found c.args.symbols.now c.args.count c.args.window c.args.levels.now c.in_default.ensures.cases
     c.requires.one_level_each c.requires.ordered
 
 pub returns-in_default-level_at : goal.returns-in_default-level_at
-returns-in_default-level_at t c =
+returns-in_default-level_at g t c =
     rw c.in-Some.ensures.cases.0 (
       walk_begins_not c.in-Some.symbol.now c.in-Some.below.now c.args.count c.args.window
           c.in_default-level_at.ensures,
       refl,
     )
 
+pub overflow_mul-from : goal.overflow_mul-from
+overflow_mul-from g t c =
+    let symbols = rw c.in-Some.ensures.cases.0 at c.requires.symbols in
+    omega (
+      arith,
+      scaled_fits c.in-Some.symbol.now c.from.result (symbols 0 c.in-Some.symbol.now (omega arith))
+          (omega (arith, c.from.ensures, c.in-Some-level_at.ensures.0, c.in-Some-level_at.ensures.1)),
+    )
+
+pub may_fill-requires-clause-knows : goal.may_fill-requires-clause-knows
+may_fill-requires-clause-knows g t c =
+    knows_below c.args.residues.now c.in-Some.symbol.now c.in-Some.below.now
+    (rw c.in-Some.ensures.cases.0 at c.requires.knows)
+
 pub find_from-requires : goal.find_from-requires
-find_from-requires t c =
-    let positive = rw c.in-Some.ensures.cases.0 at c.requires.positive in (
+find_from-requires g t c =
+    let symbols = rw c.in-Some.ensures.cases.0 at c.requires.symbols in
+    let level = c.counts.invariant.reaches.is_level in
+    let scaled =
+    scaled_below c.in-Some.symbol.now c.in-Some.below.now c.args.window c.args.scaled c.counts.rest c.counts.level
+    (rw c.in-Some.ensures.cases.0 at c.requires.scaled) level c.counts.invariant.rest in
+    let knows =
+    knows_below c.args.residues.now c.in-Some.symbol.now c.in-Some.below.now
+    (rw c.in-Some.ensures.cases.0 at c.requires.knows) in
+    let ordered =
+    level_ordered c.in-Some.symbol.now.mass c.args.window c.counts.level level c.requires.ordered in
+    λ κs l. (
       search rules,
       (
         search rules,
-        (
-          (λ k d h. positive (suc k) d (omega arith)),
-          level_ordered c.in-Some.symbol.now.mass c.args.window c.counts.level c.counts.invariant.reaches.is_level
-              c.requires.ordered,
-        ),
+        (search rules, ((λ k d h. symbols (suc k) d (omega arith)), (ordered, (scaled, knows)))),
       ),
     )
 
 pub returns-then-find_from : goal.returns-then-find_from
-returns-then-find_from t c =
+returns-then-find_from g t c =
     let found = rw c.first_low-low.ensures at c.if-find_from.ensures in
     let reaches = c.counts.invariant.reaches in
     rw (
@@ -45,21 +73,53 @@ returns-then-find_from t c =
     )
 
 pub returns-in_default-raised : goal.returns-in_default-raised
-returns-in_default-raised t c =
-    let none = rw c.first_low-low.ensures at c.if-find_from.ensures in
+returns-in_default-raised g t c =
     let reaches = c.counts.invariant.reaches in
-    rw (none.1, c.in-Some.ensures.cases.0) (
+    let below =
+    scaled_below c.in-Some.symbol.now c.in-Some.below.now c.args.window c.args.scaled c.counts.rest c.counts.level
+    (rw c.in-Some.ensures.cases.0 at c.requires.scaled) reaches.is_level c.counts.invariant.rest in
+    let none : (find (is_left (masses_of c.in-Some.below.now) c.counts.level.left None)
+    (box_of (limits_of c.in-Some.below.now)) ≡ None) × (c.else-may_fill.levels ≡ c.counts.levels) =
+    elim c.else-may_fill.branch [
+      | else-may_fill-via-then-may_fill+else-find_from w ↦
+          let not_found = rw c.first_low-low.ensures at w.if-find_from.ensures in
+          (not_found.0, w.levels-is ∙ rw not_found.1 (put_back c.counts.levels))
+      | else-may_fill-via-else-may_fill w ↦ (
+        none_without c.in-Some.below.now c.counts.level.left c.counts.rest (limits_of c.in-Some.below.now) below
+            w.if-may_fill.ensures,
+        w.levels-is,
+      )
+    ] in
+    rw c.in-Some.ensures.cases.0 (
       walk_ends c.in-Some.symbol.now c.in-Some.below.now c.args.count c.args.window c.counts.level reaches none.0
           c.in_default-raised.ensures,
-      put_back c.counts.levels ∙ c.counts.invariant.unchanged,
+      none.1 ∙ c.counts.invariant.unchanged,
     )
 
 pub counts-preserved : goal.counts-preserved
-counts-preserved t c =
-    let none = rw c.first_low-low.ensures at c.if-find_from.ensures in
+counts-preserved g t c =
     let reaches = c.counts.invariant.reaches in
-    rw none.1 record {
+    let below =
+    scaled_below c.in-Some.symbol.now c.in-Some.below.now c.args.window c.args.scaled c.counts.rest c.counts.level
+    (rw c.in-Some.ensures.cases.0 at c.requires.scaled) reaches.is_level c.counts.invariant.rest in
+    let none : (find (is_left (masses_of c.in-Some.below.now) c.counts.level.left None)
+    (box_of (limits_of c.in-Some.below.now)) ≡ None) × (c.else-may_fill.levels ≡ c.counts.levels) =
+    elim c.else-may_fill.branch [
+      | else-may_fill-via-then-may_fill+else-find_from w ↦
+          let not_found = rw c.first_low-low.ensures at w.if-find_from.ensures in
+          (not_found.0, w.levels-is ∙ rw not_found.1 (put_back c.counts.levels))
+      | else-may_fill-via-else-may_fill w ↦ (
+        none_without c.in-Some.below.now c.counts.level.left c.counts.rest (limits_of c.in-Some.below.now) below
+            w.if-may_fill.ensures,
+        w.levels-is,
+      )
+    ] in
+    record {
       reaches = walk_goes_on c.in-Some.symbol.now c.in-Some.below.now c.args.count c.args.window c.counts.level reaches
           none.0 c.in-Some-raised.raised c.in-Some-raised.ensures;
-      unchanged = put_back c.counts.levels ∙ c.counts.invariant.unchanged;
+      rest = rw c.in-Some-raised.ensures.0
+          (c.window_less-rest-in-counts.ensures
+          ∙ less_more c.args.scaled c.counts.rest c.counts.level.count c.in-Some.symbol.now.scaled
+          c.counts.invariant.rest);
+      unchanged = none.1 ∙ c.counts.invariant.unchanged;
     }

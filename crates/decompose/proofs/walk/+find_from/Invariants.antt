@@ -1,15 +1,17 @@
-use Rattle.std.proofs.Common.{length, ◌≡◌, ◌-◌}
+use Rattle.std.proofs.Common.{length, ◌≡◌, ◌-◌, ◌*◌}
+use Rattle.decompose.specs.Levels.{window_less}
 use Rattle.decompose.proofs.WalkSteps.{Reaches}
 use Rattle.decompose.proofs.walk.+find_from.Given as goal
 
 abbrev pub decreases-find_from : goal.decreases-find_from
-decreases-find_from l = length l.symbols.now
+decreases-find_from g l = length l.symbols.now
 
 abbrev pub invariant-counts : goal.invariant-counts
-invariant-counts l = record {
+invariant-counts g l = record {
   reaches : Reaches l.symbol l.below l.count l.fn.window l.level;
+  rest : l.rest ≡ window_less l.fn.scaled (l.level.count * l.symbol.scaled);
   unchanged : l.levels ≡ l.initial.levels;
 }
 
 abbrev pub decreases-counts : goal.decreases-counts
-decreases-counts l = l.symbol.limit.high - l.level.count
+decreases-counts g l = l.symbol.limit.high - l.level.count

@@ -1,6 +1,6 @@
 use Rattle.std.proofs.Common.{ap, arith, sym, subst}
 use Rattle.std.specs.Prelude.{Err}
-use Rattle.decompose.specs.Masses.{AreMasses, base_of}
+use Rattle.mass_scaling.specs.Masses.{AreMasses, base_of}
 use Rattle.isoform.proofs.AlphabetMasses.{are_masses, base_of-alphabet}
 use Rattle.isoform.proofs.decomposition.Decomposition.over.Goals as goal
 

@@ -1,0 +1,149 @@
+-- Probes: what the levels of a walk leave of a scaled window, and where nothing can fill it.
+use Rattle.std.proofs.Common.{◌≡◌, ℕ, zero, suc, ◌+◌, ◌-◌, ◌*◌, ◌^◌, ◌<◌, ◌≤◌, Bool, true, false, leb, length}
+use Rattle.std.proofs.Common.{Option, Some, None, List, [], ◌∷◌, drop, refl, sym, ◌∙◌, inl, inr, subst, arith}
+use Rattle.std.specs.List.{find, All}
+use Rattle.std.specs.Bool.{OnFalse}
+use Rattle.std.specs.Option.{IsNone, is_some}
+use Rattle.std.proofs.lemmas.Bool.{cases_Bool, and_left, and_parts, leb-true, false≢true}
+use Rattle.std.proofs.lemmas.Bool.Decides.{nat_tests}
+use Rattle.std.proofs.Math.Nat.{mul-le-mul_right}
+use Rattle.mass_scaling.specs.Masses.{mass_of}
+use Rattle.mass_scaling.specs.declared.windows.Window.{Window}
+use Rattle.residue_table.specs.Sums.{IsSum, Reaches, HoldsNowhereIn}
+use Rattle.decompose.specs.CountLists.{box_of}
+use Rattle.decompose.specs.Enumeration.{is_within}
+use Rattle.decompose.specs.Search.{is_left}
+use Rattle.decompose.specs.Levels.{IsSymbol, IsLevel, masses_of, scaled_masses_of, window_less, window_at}
+use Rattle.decompose.specs.Probes.{HasNoList, IsScaledWindow, KnowsScaled, scaled_at}
+use Rattle.decompose.specs.Walk.{StandsAt}
+use Rattle.decompose.specs.declared.limits.Limit.{Limit}
+use Rattle.decompose.specs.declared.levels.Symbol.{Symbol}
+use Rattle.decompose.specs.declared.levels.Level.{Level}
+use Rattle.decompose.proofs.FindAndFilter.{find_none}
+use Rattle.decompose.proofs.SearchSteps.{within_less}
+
+mass_of-nil : (masses : List ℕ) → mass_of masses [] ≡ 0
+mass_of-nil [] = refl
+mass_of-nil (m ∷ ms) = refl
+
+-- the mass of a count list is a sum of whole multiples
+IsSum-mass : (masses counts : List ℕ) → IsSum masses (mass_of masses counts)
+IsSum-mass [] counts = refl
+IsSum-mass (m ∷ ms) [] =
+    (0, mass_of ms [], (let none = mass_of-nil ms in omega arith), IsSum-mass ms [])
+IsSum-mass (m ∷ ms) (c ∷ cs) = (c, mass_of ms cs, refl, IsSum-mass ms cs)
+
+-- no counts fill a scaled window that the table reaches nowhere
+pub none_fills : (residues : List ℕ) (symbols : List Symbol) (scaled : Window) → KnowsScaled residues symbols →
+    HoldsNowhereIn (Reaches residues (length symbols)) scaled.lo scaled.hi → (counts : List ℕ) →
+    is_within scaled (mass_of (scaled_masses_of symbols) counts) ≡ false
+none_fills residues symbols scaled knows nowhere counts =
+    elim (cases_Bool (is_within scaled (mass_of (scaled_masses_of symbols) counts))) [
+      | inl t ↦
+          let ends = and_parts (leb scaled.lo (mass_of (scaled_masses_of symbols) counts)) _ t in
+          let sum = IsSum-mass (scaled_masses_of symbols) counts in
+          absurd
+          (nowhere (mass_of (scaled_masses_of symbols) counts) (leb-true _ _ ends.0) (leb-true _ _ ends.1)
+          (subst (λ xs. IsSum xs (mass_of (scaled_masses_of symbols) counts)) (sym knows.last) sum))
+      | inr f ↦ f
+    ]
+
+drop_tail : (k : ℕ) (xs ys : List ℕ) (y : ℕ) → drop k xs ≡ y ∷ ys → drop (suc k) xs ≡ ys
+drop_tail zero [] ys y e = absurd (cc)
+drop_tail zero (x ∷ xs) ys y e = cc
+drop_tail (suc k) [] ys y e = absurd (cc)
+drop_tail (suc k) (x ∷ xs) ys y e = drop_tail k xs ys y e
+
+-- a table that knows symbols knows those below the first
+pub knows_below : (residues : List ℕ) (s : Symbol) (below : List Symbol) → KnowsScaled residues (s ∷ below) →
+    KnowsScaled residues below
+knows_below residues s below knows =
+    let more : suc (length below) ≤ length residues = knows.at_most in
+    let place : length residues - length below ≡ suc (length residues - suc (length below)) = omega arith in
+    record {
+      at_most = omega arith;
+      last = rw place
+          (drop_tail (length residues - suc (length below)) residues (scaled_masses_of below) s.scaled knows.last);
+    }
+
+pub knows_at : (residues : List ℕ) (symbols : List Symbol) (place : ℕ) → KnowsScaled residues symbols →
+    KnowsScaled residues (drop place symbols)
+knows_at residues symbols zero knows = knows
+knows_at residues [] (suc place) knows = knows
+knows_at residues (s ∷ ss) (suc place) knows = knows_at residues ss place (knows_below residues s ss knows)
+
+less_within : (window : Window) (taken mass : ℕ) → is_within window (taken + mass) ≡ true →
+    is_within (window_less window taken) mass ≡ true
+less_within window taken mass h = grind (arith, nat_tests)
+
+-- what a level leaves of a scaled window is one of what it leaves of the window
+pub scaled_below : (s : Symbol) (below : List Symbol) (window scaled rest : Window) (level : Level) →
+    IsScaledWindow (s ∷ below) window scaled → IsLevel s.mass window level →
+    rest ≡ window_less scaled (level.count * s.scaled) → IsScaledWindow below level.left rest
+scaled_below s below window scaled rest level w v e =
+    rw e record {
+      keeps = λ cs h.
+          less_within scaled (level.count * s.scaled) (mass_of (scaled_masses_of below) cs)
+          (w.keeps (level.count ∷ cs)
+          (within_less window (level.count * s.mass) (mass_of (masses_of below) cs) v.fits ∙ (rw v.rest at h)));
+      not_empty = omega (arith, w.not_empty);
+      in_range = omega (arith, w.in_range);
+    }
+
+-- where no counts fill what is left of the scaled window, no list is there
+pub none_without : (symbols : List Symbol) (window scaled : Window) (limits : List Limit) →
+    IsScaledWindow symbols window scaled →
+    ((counts : List ℕ) → is_within scaled (mass_of (scaled_masses_of symbols) counts) ≡ false) →
+    find (is_left (masses_of symbols) window None) (box_of limits) ≡ None
+none_without symbols window scaled limits w none =
+    find_none (is_left (masses_of symbols) window None) (box_of limits)
+    (λ cs. elim (cases_Bool (is_within window (mass_of (masses_of symbols) cs))) [
+      | inl t ↦ absurd (false≢true (sym (none cs) ∙ w.keeps cs t))
+      | inr f ↦ and_left _ _ f
+    ])
+
+pub none_at_all : (symbols : List Symbol) (window : Window) (given : Option (List ℕ)) (limits : List Limit) →
+    HasNoList symbols window → find (is_left (masses_of symbols) window given) (box_of limits) ≡ None
+none_at_all symbols window given limits none =
+    find_none (is_left (masses_of symbols) window given) (box_of limits) (λ cs. and_left _ _ (none cs))
+
+-- what the levels before a place leave
+pub scaled_at_place : (symbols : List Symbol) (window scaled : Window) (levels : List Level) (place : ℕ) →
+    StandsAt symbols window levels (suc place) → IsScaledWindow symbols window scaled →
+    IsScaledWindow (drop place symbols) (window_at window levels place) (scaled_at symbols levels scaled place)
+scaled_at_place symbols window scaled levels zero h w = w
+scaled_at_place [] window scaled levels (suc place) h w = absurd h
+scaled_at_place (s ∷ ss) window scaled [] (suc place) h w = absurd h
+scaled_at_place (s ∷ ss) window scaled (v ∷ vs) (suc place) h w =
+    scaled_at_place ss v.left (window_less scaled (v.count * s.scaled)) vs place h.1
+    (scaled_below s ss window scaled (window_less scaled (v.count * s.scaled)) v w h.0 refl)
+
+-- the symbols from a place on
+pub symbols_at : (symbols : List Symbol) (place : ℕ) → All IsSymbol symbols → All IsSymbol (drop place symbols)
+symbols_at symbols zero h = h
+symbols_at [] (suc place) h = h
+symbols_at (s ∷ ss) (suc place) h = symbols_at ss place (λ k d w. h (suc k) d (omega arith))
+
+-- one more atom leaves as much less
+pub less_more : (scaled : Window) (rest : Window) (count a : ℕ) → rest ≡ window_less scaled (count * a) →
+    window_less rest a ≡ window_less scaled ((count + 1) * a)
+less_more scaled rest count a e =
+    let lo : scaled.lo - count * a - a ≡ scaled.lo - (count + 1) * a = omega arith in
+    let hi : scaled.hi - count * a - a ≡ scaled.hi - (count + 1) * a = omega arith in
+    rw (e, lo, hi) refl
+
+-- the scaled mass of the atoms of a symbol fits
+pub scaled_fits : (symbol : Symbol) (count : ℕ) → IsSymbol symbol → count ≤ symbol.limit.high →
+    count * symbol.scaled < 2 ^ 64
+scaled_fits symbol count s high =
+    let few : count ≤ 10000 = omega (arith, s.limit.bounded) in
+    let most = mul-le-mul_right symbol.scaled few in
+    omega (arith, most, s.scaled_in_range)
+
+-- what a probe tells
+pub filled_or_not : (residues : List ℕ) (symbols : List Symbol) (scaled : Window) (found : Option ℕ) (r : Bool) →
+    KnowsScaled residues symbols → r ≡ is_some found →
+    (IsNone found → HoldsNowhereIn (Reaches residues (length symbols)) scaled.lo scaled.hi) →
+    OnFalse r ((counts : List ℕ) → is_within scaled (mass_of (scaled_masses_of symbols) counts) ≡ false)
+filled_or_not residues symbols scaled None r knows e none = rw e (none_fills residues symbols scaled knows (none refl))
+filled_or_not residues symbols scaled (Some v) r knows e none = rw e tt

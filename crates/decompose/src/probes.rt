@@ -1,0 +1,72 @@
+//! Probes: whether what is left of a scaled window can be filled.
+ghost use Rattle.std.specs.Prelude.{ℕ, ◌≡◌, ◌^◌, ◌<◌, ◌≤◌, List, false, length, All, MatchOption};
+ghost use Rattle.std.specs.Bool.{OnFalse};
+ghost use Rattle.decompose.specs.CountLists.{IsInBox};
+ghost use Rattle.decompose.specs.Enumeration.{is_within};
+ghost use Rattle.decompose.specs.Levels.{IsSymbol, masses_of, scaled_masses_of, limits_of, counts_of};
+ghost use Rattle.mass_scaling.specs.Masses.{mass_of};
+ghost use Rattle.mass_scaling.specs.Scales.{scaled_of};
+ghost use Rattle.decompose.specs.declared.levels.Symbol.{Symbol};
+ghost use Rattle.decompose.specs.Probes.{HasNoList, IsScaledWindow, KnowsScaled, scaled_at};
+
+use crate::levels::{Level, Symbol, window_less};
+use crate::mass_tables::Tables;
+use mass_scaling::{Window, scaled_window};
+use outside_ports::Steps;
+use residue_table::Residues;
+use std::sync::ledger::Ledger;
+
+/// The window of the scaled masses that count lists of a window can have; None where there is none.
+pub(crate) fn scaled_window_of(tables: &Tables, window: Window) -> Option<Window>
+    ensures { (symbols : List Symbol) → masses_of symbols ≡ tables.now
+        → scaled_masses_of symbols ≡ scaled_of tables.now
+        → MatchOption result (HasNoList symbols window) (IsScaledWindow symbols window) }
+{
+    scaled_window(&tables.masses, &tables.scale, window)
+}
+
+/// Whether these symbols may fill what is left of a scaled window: false only where no counts of theirs do.
+///
+/// A window that reaches down to 0 needs no probe: no atom at all fills it.
+pub(crate) fn may_fill<L: Ledger>(
+    residues: &Residues,
+    symbols: &[Symbol],
+    scaled: Window,
+    steps: &mut Steps<L>,
+) -> bool
+    requires knows { KnowsScaled residues.now symbols.now }
+    requires ordered { scaled.lo ≤ scaled.hi }
+    requires in_range { scaled.hi < 2 ^ 63 }
+    ensures { OnFalse result ((counts : List ℕ) →
+        is_within scaled (mass_of (scaled_masses_of symbols.now) counts) ≡ false) }
+{
+    scaled.lo == 0
+        || residues
+            .first_in(symbols.len(), scaled.lo, scaled.hi, steps)
+            .is_some()
+}
+
+/// What the levels before this place leave of a scaled window.
+pub(crate) fn scaled_at(
+    symbols: &[Symbol],
+    levels: &[Level],
+    scaled: Window,
+    place: usize,
+) -> Window
+    requires place { place ≤ length levels.now }
+    requires symbols { All IsSymbol symbols.now }
+    requires in_box { IsInBox (limits_of symbols.now) (counts_of levels.now) }
+    ensures { result ≡ scaled_at symbols.now levels.now scaled place }
+{
+    if place == 0 {
+        return scaled;
+    }
+    let Some((symbol, below)) = symbols.split_first() else {
+        return scaled;
+    };
+    let Some((level, lower)) = levels.split_first() else {
+        return scaled;
+    };
+    let taken = u64::from(level.count) * symbol.scaled;
+    scaled_at(below, lower, window_less(scaled, taken), place - 1)
+}
