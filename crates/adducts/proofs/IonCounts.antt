@@ -62,13 +62,13 @@ others_of adduct formula = filter (λ p. not (has_item formula p.0)) adduct.adde
 pub distinct : (formula : List (Item × ℕ)) → AreCounts formula → Distinct formula
 distinct formula are = Distinct-AllPairs formula are.distinct
 
-pub ion-counts : (adduct : AdductValue) (formula : List (Item × ℕ)) → IsAdduct adduct → AreCounts formula → (q : Item)
-    → count_in (ion_counts adduct formula) q ≡ ion_count adduct formula q
-ion-counts adduct formula is are q =
+pub distinct-counts : (adduct : AdductValue) (formula : List (Item × ℕ)) → IsAdduct adduct → Distinct formula
+    → (q : Item) → count_in (ion_counts adduct formula) q ≡ ion_count adduct formula q
+distinct-counts adduct formula is apart q =
     let count = ion_count adduct formula in
     let others = others_of adduct formula in
     let added_distinct = parts-Distinct adduct.added is.added in
-    let first = counted-anew count formula (distinct formula are) q in
+    let first = counted-anew count formula apart q in
     let second = counted-anew count others (Distinct-filter (λ p. not (has_item formula p.0)) adduct.added added_distinct) q in
     let there = has_item-filter (λ item. not (has_item formula item)) adduct.added q in
     count_in-append (own_counts adduct formula) (map (λ (p : Item × ℕ). (p.0, count p.0)) others) q
@@ -87,6 +87,10 @@ ion-counts adduct formula is are q =
         let nothing = count_in-absent adduct.added q e in
         let copies : adduct.copies * count_in formula q ≡ adduct.copies * 0 = ap (λ n. adduct.copies * n) none in
         omega arith
+
+pub ion-counts : (adduct : AdductValue) (formula : List (Item × ℕ)) → IsAdduct adduct → AreCounts formula → (q : Item)
+    → count_in (ion_counts adduct formula) q ≡ ion_count adduct formula q
+ion-counts adduct formula is are q = distinct-counts adduct formula is (distinct formula are) q
 
 -- ---- the one ion
 
@@ -180,6 +184,46 @@ ion_of-is adduct formula ion is are e =
           }
     ] refl e
 
+-- a formula that is a sum of counts is their sum
+pub formula-is_sum : (parts f : List (Item × ℕ)) → formula_of parts ≡ Some f → (f ≡ sum_of parts) × (0 < length f)
+formula-is_sum parts f e =
+    elim (has_many_atoms (sum_of parts)) as (λ b. formula_in (cond b (Err limit.TooManyAtoms)
+    (cond (has_many_items (sum_of parts)) (Err limit.TooManyElements) (Ok (sum_of parts)))) ≡ Some f
+    → (f ≡ sum_of parts) × (0 < length f)) [
+      | true ↦ λ e. cc
+      | false ↦ λ e. elim (has_many_items (sum_of parts)) as (λ b.
+          formula_in (cond b (Err limit.TooManyElements) (Ok (sum_of parts))) ≡ Some f
+          → (f ≡ sum_of parts) × (0 < length f)) [
+            | true ↦ λ e. cc
+            | false ↦ λ e. some_sum (sum_of parts) e
+          ] e
+    ] e
+  where
+    some_sum : (sums : List (Item × ℕ)) → formula_in (Ok sums) ≡ Some f → (f ≡ sums) × (0 < length f)
+    some_sum [] e = cc
+    some_sum (p ∷ ps) e =
+        let same : p ∷ ps ≡ f = cc in
+        (sym same, subst (λ (l : List (Item × ℕ)). 0 < length l) same (omega arith))
+
+-- the counts of an ion, with those that are lost, are those gained
+pub ion-balance : (adduct : AdductValue) (formula ion : List (Item × ℕ)) → IsAdduct adduct → Distinct formula
+    → ion_of adduct formula ≡ Some ion
+    → (item : Item) → count_in ion item + count_in adduct.lost item ≡ gained adduct formula item
+unfolding ion_of
+ion-balance adduct formula ion is apart e item =
+    elim (has_what_is_lost adduct formula) as (λ b. has_what_is_lost adduct formula ≡ b
+    → cond b (formula_of (ion_counts adduct formula)) None ≡ Some ion
+    → count_in ion item + count_in adduct.lost item ≡ gained adduct formula item) [
+      | false ↦ λ _ e. cc
+      | true ↦ λ there e.
+          let sums = (formula-is_sum (ion_counts adduct formula) ion e).0 in
+          let counts : count_in ion item ≡ count_in (ion_counts adduct formula) item =
+          ap (λ f. count_in f item) sums ∙ sum_of-counts (ion_counts adduct formula) item in
+          let same = distinct-counts adduct formula is apart item in
+          let few = few-lost adduct formula is there item in
+          omega arith
+    ] refl e
+
 -- the table has the items of the ion
 pub ion-known : (table : TableEntries) (adduct : AdductValue) (formula ion : List (Item × ℕ)) → IsIonOf adduct formula ion
     → IsAdduct adduct → AreCounts formula → HasItems table formula → HasItems table adduct.added → HasItems table ion
@@ -223,6 +267,15 @@ ion-weight w adduct formula ion counts =
 shifted : (ion lost formula added : ℕ) (electrons : ℤ) → ion + lost ≡ formula + added
     → pos ion -ℤ electrons ≡ pos formula +ℤ ((pos added -ℤ pos lost) -ℤ electrons)
 shifted ion lost formula added electrons e = omega (arith, ints, e)
+
+-- the mass of a formula's ion is that of the copies with the adduct's shift
+pub ion_of-shift : (table : TableEntries) (adduct : AdductValue) (formula ion : List (Item × ℕ)) → IsAdduct adduct
+    → Distinct formula → ion_of adduct formula ≡ Some ion
+    → mass_of_ion table adduct ion ≡ pos (adduct.copies * mass_of table formula) +ℤ shift_of table adduct
+ion_of-shift table adduct formula ion is apart e =
+    shifted (mass_of table ion) (mass_of table adduct.lost) (adduct.copies * mass_of table formula)
+    (mass_of table adduct.added) (adduct.charge *ℤ pos table.electron)
+    (ion-weight (item_mass table) adduct formula ion (ion-balance adduct formula ion is apart e))
 
 -- the mass of an ion is that of the copies with the adduct's shift
 pub ion-shift : (table : TableEntries) (adduct : AdductValue) (formula ion : List (Item × ℕ)) → IsIonOf adduct formula ion

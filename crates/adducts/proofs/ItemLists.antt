@@ -82,6 +82,9 @@ sorted-Distinct carbon (e ∷ es) h = (
   sorted-Distinct carbon es (t_second (below_all (hill_cmp carbon) e.0 es) (is_sorted (hill_cmp carbon) es) h),
 )
 
+pub sum-Distinct : (parts : List (Item × ℕ)) → Distinct (sum_of parts)
+sum-Distinct parts = sorted-Distinct (has_carbon parts) (sum_of parts) (sum_of-sorted parts)
+
 pub parts-Distinct : (es : List (Item × ℕ)) → IsParts es → Distinct es
 parts-Distinct es is = sorted-Distinct (has_carbon es) es (T-IsTrue _ is.ordered)
 

@@ -10,7 +10,8 @@ use Rattle.std.proofs.Math.ListN.{drop_of_length-le}
 use Rattle.std.proofs.Math.Seq.{drop-append_seam, drop-cons}
 use Rattle.element_table.specs.SymbolText.{is_symbol}
 use Rattle.written_items.specs.WrittenItems.{are_digits, begins, EndsSymbol}
-use Rattle.written_items.specs.LeadingItems.{leading_digits, leading_symbol}
+use Rattle.fixed_decimal.specs.Decimal.{leading_digits}
+use Rattle.written_items.specs.LeadingItems.{leading_symbol}
 use Rattle.written_items.proofs.ByteKinds.{take_while-stops}
 use Rattle.written_items.proofs.CountTails.{counts-read}
 use Rattle.written_items.proofs.LeadingSymbols.{leading_symbol-Some}

@@ -91,7 +91,7 @@ weigh-with_atoms w (p ∷ ps) =
           omega arith
     ] refl
 
-weigh-sum_of : (w : Item → ℕ) (parts : List (Item × ℕ)) → weigh w (sum_of parts) ≡ weigh w parts
+pub weigh-sum_of : (w : Item → ℕ) (parts : List (Item × ℕ)) → weigh w (sum_of parts) ≡ weigh w parts
 weigh-sum_of w parts =
     let rest = weigh-with_atoms w parts in
     fold-weigh w (has_carbon parts) [] (with_atoms parts) tt ∙ omega arith

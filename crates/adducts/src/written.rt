@@ -10,9 +10,9 @@ ghost use Rattle.adducts.specs.Progress.{Expects, ReadsCharge, ReadsRow, ReadsTe
 
 use crate::fault::AdductFault;
 use element_table::Symbol;
-use fixed_decimal::capped_number;
+use fixed_decimal::{capped_number, leading_digits};
 use std::alloc::Global;
-use written_items::{leading_digits, leading_symbol};
+use written_items::leading_symbol;
 
 /// A symbol of a term, with the atoms of it that the term adds to an ion or takes off it.
 #[derive(Clone, Copy, Debug)]

@@ -1,5 +1,5 @@
 //! `decompose`: the formulas of a measured mass.
-ghost use Rattle.std.specs.Prelude.{◌≡◌, ◌∷◌, [], ◌<◌, ℕ, List, All, ◌++◌, IfOk, IfSome, OnOk, IsTrue, is_some, length, map};
+ghost use Rattle.std.specs.Prelude.{◌≡◌, ◌∷◌, [], ◌<◌, All, ◌++◌, IfOk, IfSome, OnOk, IsTrue, is_some, length, map};
 ghost use Rattle.std.specs.List.{filter_map, flat_map};
 ghost use Rattle.reader_answers.specs.Answers.{Gives};
 ghost use Rattle.mass_scaling.specs.Limits.{AreMeasured};

@@ -1,12 +1,11 @@
 //! The program: from its words and a shelf of files to an output, notes and a status.
-ghost use Rattle.std.specs.Prelude.{◌≡◌, ◌≢◌, ◌<◌, ◌≤◌, ◌⊎◌, ◌++◌, ◌∷◌, [], ℕ, map, take, string_bytes, List, Option, Some, Result, Ok, Err, IfOk, IfSome, IsOkAnd};
-ghost use Rattle.std.specs.Io.KnownBytes.{append_known};
+ghost use Rattle.std.specs.Prelude.{◌≡◌, ◌≢◌, ◌<◌, ◌⊎◌, ◌++◌, ℕ, map, take, string_bytes, Some, Result, Ok, Err, IfSome, IsOkAnd};
 ghost use Rattle.outside_ports.specs.Faults.{Rose};
 ghost use Rattle.command_words.specs.Requests.{HasRanges};
 ghost use Rattle.isoform.specs.Answer.{answer, answer_of_request, file_names, names_of_request};
 ghost use Rattle.isoform.specs.Claims.{Holds};
-ghost use Rattle.isoform.specs.Notes.{note_of, status_of};
-ghost use Rattle.isoform.specs.Outside.{Ending, EndsAs, IsPut, IsTold, ReceivesAll, Runs, Shows, TellsNote, outside, status_of_answer};
+ghost use Rattle.isoform.specs.Notes.{status_of};
+ghost use Rattle.isoform.specs.Outside.{EndsAs, IsPut, IsTold, ReceivesAll, Runs, Shows, TellsNote, outside, status_of_answer};
 
 use crate::decomposition::Decomposition;
 use crate::envelope::Envelope;

@@ -4,9 +4,14 @@ use Rattle.std.specs.Prelude.{ℕ, ℤ, ◌<◌, pos, negsuc, suc, ◌+ℤ◌, �
 use Rattle.std.specs.Prelude.{codes}
 use Rattle.std.specs.List.{join_with_byte, flat_map}
 use Rattle.std.specs.Fmt.{decimal, signed_decimal}
+use Rattle.std.specs.Option.{option_map_or}
 use Rattle.fixed_decimal.specs.DecimalTexts.{decimal_text}
 use Rattle.written_items.specs.declared.item.Item.{Item}
+use Rattle.element_table.specs.Elements.{TableEntries}
+use Rattle.formula_text.specs.Masses.{mass_of}
 use Rattle.formula_text.specs.PrintedText.{printed}
+use Rattle.adducts.specs.Adducts.{AdductValue, divisor_of}
+use Rattle.adducts.specs.Ions.{ion_mass}
 use Rattle.cover_certificate.specs.FormulaCovers.{MemberEntry, CoverEntries}
 
 -- the bytes between two words, behind a line, and before a number below 0
@@ -54,6 +59,12 @@ abbrev pub formula_line : List (Item × ℕ) → ℕ → ℤ → ℕ → ℕ →
 formula_line formula mass ion_mass mz divisor =
     line (codes "formula" ∷ printed formula ∷ mass_text mass ∷ ion_mass_text ion_mass
     ∷ signed_decimal (mass_difference ion_mass mz divisor) ∷ [])
+
+-- the line of a formula over its ion, which is defined
+abbrev pub decompose_line : TableEntries → List (Item × ℕ) → AdductValue → ℕ → List ℕ
+decompose_line table formula adduct mz =
+    option_map_or (λ mass. formula_line formula (mass_of table formula) mass mz (divisor_of adduct))
+    (ion_mass table adduct formula) []
 
 -- the lines above the isotopologues of a cover
 abbrev pub envelope_head : CoverEntries → List ℕ

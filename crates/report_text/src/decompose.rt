@@ -1,10 +1,14 @@
 //! The lines of the report of formulas.
-ghost use Rattle.std.specs.Prelude.{◌≡◌, ◌++◌, IfOk, OnOk, OnErr};
+ghost use Rattle.std.specs.Prelude.{◌≡◌, ◌++◌, IfOk, OnOk, OnErr, IsTrue, is_some};
 ghost use Rattle.report_text.specs.ReportLines.{IsPrintedMass, mass_difference};
-ghost use Rattle.report_text.specs.ReportLines.{decompose_head, peak_line, formula_line};
+ghost use Rattle.report_text.specs.ReportLines.{decompose_head, peak_line, formula_line, decompose_line};
+ghost use Rattle.formula_text.specs.Masses.{HasItems};
+ghost use Rattle.adducts.specs.Ions.{ion_of};
 
 use crate::line::push_line;
 use crate::word::{Word, ion_mass_word};
+use adducts::{Adduct, ion_mass};
+use element_table::Table;
 use formula_text::Formula;
 use std::alloc::{AllocError, Global};
 
@@ -88,6 +92,52 @@ pub fn push_formula_line(
             Word::Difference(mass_difference(ion_mass, mz, divisor)),
         ],
     )
+}
+
+/// The line of a formula for a peak of this m/z: its text and its mass, the mass of its ion, and how far that is above
+/// the adduct's divisor times m/z. All masses are in 10^-12 Da. The ion is defined, and the table has each item.
+pub fn decompose_line(
+    alloc: Global,
+    table: &Table,
+    formula: &Formula,
+    adduct: &Adduct,
+    mz: u64,
+) -> Result<Vec<u8>, AllocError>
+    requires known { HasItems table.now formula.now }
+    requires added_known { HasItems table.now adduct.now.added }
+    requires lost_known { HasItems table.now adduct.now.lost }
+    requires defined { IsTrue (is_some (ion_of adduct.now formula.now)) }
+    ensures { IfOk result (λ text. text.items ≡ decompose_line table.now formula.now adduct.now mz) }
+{
+    let mut text = Vec::new(alloc);
+    push_decompose_line(&mut text, table, formula, adduct, mz)?;
+    Ok(text)
+}
+
+/// Appends the line of a formula for a peak, as [`decompose_line`] gives it. Without room for it the report stays as it
+/// was.
+pub fn push_decompose_line(
+    report: &mut Vec<u8>,
+    table: &Table,
+    formula: &Formula,
+    adduct: &Adduct,
+    mz: u64,
+) -> Result<(), AllocError>
+    requires known { HasItems table.now formula.now }
+    requires added_known { HasItems table.now adduct.now.added }
+    requires lost_known { HasItems table.now adduct.now.lost }
+    requires defined { IsTrue (is_some (ion_of adduct.now formula.now)) }
+    ensures line { OnOk result (
+        report.new.items ≡ report.old.items ++ decompose_line table.now formula.now adduct.now mz) }
+    ensures refused { OnErr result (report.new.items ≡ report.old.items) }
+{
+    let mass = formula.mass(table);
+    match ion_mass(table, formula, adduct) {
+        Some(ion_mass) => {
+            push_formula_line(report, formula, mass, ion_mass, mz, adduct.divisor())
+        }
+        None => unreachable!(),
+    }
 }
 
 /// How far the mass of an ion is above divisor times m/z, in 10^-12 Da.

@@ -5,9 +5,9 @@
 //! that is used again. Numbers and masses are printed on the stack, so a line takes memory for its own bytes alone.
 //! Without room for a line the text stays as it was.
 //!
-//! The crate stands on `formula_text` and `cover_certificate` for what is printed, on `written_items`, `itoa` and the
-//! definition of decimal texts of `fixed_decimal` for how it is printed, and on `element_table` for its tests. The
-//! program puts the lines one by one.
+//! The crate stands on `formula_text`, `adducts`, `element_table` and `cover_certificate` for what is printed, and on
+//! `written_items`, `itoa` and the definition of decimal texts of `fixed_decimal` for how it is printed. The program
+//! puts the lines one by one.
 #![tactic(auto)]
 
 mod decompose;
@@ -16,7 +16,8 @@ mod line;
 mod word;
 
 pub use decompose::{
-    decompose_head, formula_line, peak_line, push_decompose_head, push_formula_line, push_peak_line,
+    decompose_head, decompose_line, formula_line, peak_line, push_decompose_head,
+    push_decompose_line, push_formula_line, push_peak_line,
 };
 pub use envelope::{
     envelope_head, envelope_text, isotopologue_line, push_envelope_head, push_envelope_text,

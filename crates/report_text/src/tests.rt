@@ -3,6 +3,7 @@ ghost use Rattle.std.specs.Prelude.{pos, ◌+ℤ◌, IsTrue, All};
 ghost use Rattle.report_text.specs.ReportLines.{IsPrintedMass, IsPrintedWith, cover_members};
 
 use super::*;
+use adducts::{ion_of, read_adduct};
 use cover_certificate::{Cover, cover_of};
 use element_table::read_table;
 use formula_text::read_formula;
@@ -275,6 +276,50 @@ fn lines_of_formulas_are_those_of_the_worked_rows(rt: HostRuntime) -> Result<(),
         let ion_mass = i128::from(row.ion_mass);
         let line = formula_line(alloc, &formula, row.mass, ion_mass, row.mz, row.divisor)?;
         assert_eq!(rt; line.as_slice(), row.text);
+    }
+    Ok(())
+}
+
+#[test]
+fn lines_of_ions_are_those_of_the_worked_rows(rt: HostRuntime) -> Result<(), Fail> {
+    let alloc = rt.alloc();
+    let table = read_table(alloc, ELEMENTS)?;
+    let rows: &[(&[u8], &[u8], u64, &[u8])] = &[
+        (
+            b"M",
+            b"C6H12O6",
+            180_063_388_104_180,
+            b"formula C6H12O6 180.063388104180 180.063388104180 0\n",
+        ),
+        (
+            b"[M-H2O+H]+",
+            b"C2H6O",
+            29_038_576_581_241,
+            b"formula C2H6O 46.041864812950 29.038576581241 0\n",
+        ),
+        (
+            b"[M-H2O+H]+",
+            b"CH2O2",
+            29_038_576_581_241,
+            b"formula CH2O2 46.005479303600 29.002191071891 -36385509350\n",
+        ),
+        (
+            b"[2M+2H]2+",
+            b"X",
+            10_000_000_000_000,
+            b"formula X 10.000000000000 22.014552904642 2014552904642\n",
+        ),
+    ];
+    for (adduct, text, mz, expected) in rows {
+        let adduct = read_adduct(alloc, &table, adduct)?;
+        let formula = read_formula(alloc, &table, text)?;
+        assert!(rt; formula.is_of(&table));
+        assert!(rt; adduct.added().is_of(&table));
+        assert!(rt; adduct.lost().is_of(&table));
+        let ion = ion_of(alloc, &formula, &adduct)?;
+        assert!(rt; ion.is_some());
+        let line = decompose_line(alloc, &table, &formula, &adduct, *mz)?;
+        assert_eq!(rt; line.as_slice(), *expected);
     }
     Ok(())
 }

@@ -1,0 +1,13 @@
+pub use Rattle.reader_answers.specs.Answers
+pub use Rattle.multinomial_bounds.specs.Bounds
+pub use Rattle.multinomial_bounds.specs.Isotopologue
+pub use Rattle.isotopologue_sets.specs.Layers
+pub use Rattle.sub_isotopologues.specs.SubIsotopologues
+pub use Rattle.sub_isotopologues.specs.Listings
+pub mod ChosenPlaces
+pub mod Walks
+pub mod PlacedLayers
+pub mod LayerLists
+pub mod CountedWalks
+pub mod Layerings
+pub mod LayerWalks

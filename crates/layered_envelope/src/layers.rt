@@ -1,0 +1,81 @@
+//! The layers of a formula's isotopologues, one after another.
+
+use crate::fault::LayerFault;
+use crate::layer_end::LayerEnd;
+use crate::lists::{modes_of, next_end, start_lists};
+use isotopologue_sets::ElementAtoms;
+use outside_ports::Steps;
+use std::alloc::{AllocError, Global};
+use std::marker::Model;
+use std::sync::ledger::Ledger;
+use sub_isotopologues::SubIsos;
+
+/// The layers of the isotopologues of some elements. The first has those whose upper bound is above half that of the
+/// likeliest isotopologue, and each next one those above half the threshold before, rounded down; the last threshold
+/// is 0. They are seen as the elements and how many layers were given.
+#[derive(Drop)]
+pub struct Layers {
+    pub(crate) lists: Vec<SubIsos>,
+    pub(crate) modes: Vec<u64>,
+    /// The upper bound of the isotopologue of all modes.
+    pub(crate) mode_hi: u64,
+    pub(crate) given: u32,
+}
+
+impl Model for Layers {
+    ghost use Rattle.layered_envelope.specs.LayerLists.{elements_of, AreLayers};
+    ghost use Rattle.layered_envelope.specs.Layerings.{Layering};
+
+    ghost Value = { Layering };
+
+    ghost view = { λ l. record { elements = elements_of l.lists.items; given = l.given } };
+
+    ghost invariant = { λ l. AreLayers l.lists.items l.modes.items l.mode_hi l.given };
+}
+
+impl Layers {
+    ghost use Rattle.std.specs.Prelude.{◌≡◌, ◌+◌, ◌≤◌, IfOk, OnErr, length};
+    ghost use Rattle.reader_answers.specs.Answers.{Gives};
+    ghost use Rattle.isotopologue_sets.specs.Layers.{AreElements};
+    ghost use Rattle.layered_envelope.specs.Layerings.{is_memory, next_end, with_next, most_end_steps};
+
+    /// The layers of up to 20 elements with at most 20,000 atoms together, before the first one. It fails only for want
+    /// of memory.
+    pub fn start(alloc: Global, elements: Vec<ElementAtoms>) -> Result<Layers, AllocError>
+        requires { AreElements elements.items }
+        ensures { IfOk result (λ l. l ≡ record { elements = elements.items; given = 0 }) }
+    {
+        let modes = modes_of(alloc, &elements)?;
+        let (lists, mode_hi) = start_lists(alloc, &elements, &modes)?;
+        Ok(Layers {
+            lists,
+            modes,
+            mode_hi,
+            given: 0,
+        })
+    }
+
+    /// Gives the next layer: its threshold, how many members it has, and what their lower and their upper bounds total.
+    /// None exactly after the layer of threshold 0.
+    ///
+    /// `TooMany` exactly where the next layer has more than 1,048,576 members, and `Memory` for want of memory. The
+    /// layers then stand where they stood.
+    pub fn next_layer<L: Ledger>(
+        &mut self,
+        steps: &mut Steps<L>,
+    ) -> Result<Option<LayerEnd>, LayerFault>
+        ensures gives { Gives is_memory result (next_end self.old) }
+        ensures given { IfOk result (λ end. self.new ≡ with_next self.old end) }
+        ensures unchanged { OnErr result (self.new ≡ self.old) }
+        ensures steps { steps.new ≤ steps.old + most_end_steps (length self.old.elements) result }
+    {
+        if self.given > 0 && self.mode_hi >> self.given == 0 {
+            return Ok(None);
+        }
+        let threshold = self.mode_hi >> (self.given + 1);
+        let alloc = *self.lists.allocator();
+        let end = next_end(alloc, &mut self.lists, &self.modes, threshold, steps)?;
+        self.given += 1;
+        Ok(Some(end))
+    }
+}
