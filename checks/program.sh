@@ -121,5 +121,26 @@ expect 6 "isoform: limit: wide of $(printf %s {A..S}a)Ta2" "more isotopologues o
 expect 5 "isoform: formula: too many elements" "a formula of 21 elements" envelope elements120.csv "$(printf %s C{a..u})" 0.5
 expect 2 "isoform: value: --coverage" "a coverage above 0.999999" envelope elements.csv CO2 0.9999991
 
+# Words: one too many, and another order.
+in_another_order() { "$root/isoform" decompose --alphabet=AB --da 0.00001 --mass=10 --table ab.csv >out; }
+expect 2 "isoform: words" "a tenth word" "$root/isoform" decompose --table ab.csv --mass 10 --da 0 --alphabet AB more
+expect 0 "" "words in another order" in_another_order
+lines 4 "words in another order"
+
+# Reports longer than the output's buffer.
+printf "${head}A,1,0.5,1,1\nB,1,0.5,1,1\nC,1,0.5,1,1\nD,1,0.5,1,1\n" >light.csv
+long() { "$root/isoform" decompose --table light.csv --mass 15 --da 0 --alphabet ABCD; }
+long_to_file() { long >out; }
+long_to_full() { long >/dev/full; }
+long_to_closed() { long >&-; }
+expect 0 "" "a long report" long_to_file
+lines 5458 "a long report"
+expect 8 "isoform: write fault" "a long report to a full device" long_to_full
+expect 8 "isoform: write fault" "a long report to a closed device" long_to_closed
+
+# An alphabet whose tables find no memory.
+in_little_memory() { (ulimit -v 16000; "$root/crates/isoform/out/isoform" decompose --table elements120.csv --mass 10 --da 0 --alphabet "$(printf %s C{a..t})"); }
+expect 9 "isoform: memory" "too little memory" in_little_memory
+
 echo "program: $passed passed, $failed failed"
 [ "$failed" = 0 ]
