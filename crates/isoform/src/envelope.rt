@@ -1,4 +1,4 @@
-//! `envelope`: the likeliest isotopologues of a formula.
+//! `envelope`: the cover of a formula.
 ghost use Rattle.std.specs.Prelude.{◌≡◌, ◌≤◌, ◌∷◌, [], pos, IfSome};
 ghost use Rattle.std.specs.List.{flat_map};
 ghost use Rattle.command_words.specs.declared.options.TheConstants.{MIN_COVERAGE, MAX_COVERAGE};

@@ -146,12 +146,11 @@ pub fn run<H: Shelf, O: Sink, M: Sink>(
     ensures risen_reads { H.faults shelf.old < H.faults shelf.new → (result ≡ 7) ⊎ (result ≡ 9) }
     ensures risen_writes { O.faults out.old < O.faults out.new → result ≡ 8 }
 
-    // The names asked are some first ones of those that the words have, in the order of refusals; all of them with
-    // status 0 and 8.
+    // The names asked are some first ones of those that the words have, in the order of refusals.
     ensures asked { (asked : ℕ) × (H.asked shelf.new
         ≡ H.asked shelf.old ++ take asked (file_names (map string_bytes words.now.items))) }
 
-    // With status 0, 8 and 9 some first bytes of the report were received, and with every other status nothing.
+    // With a status other than 0, 8 and 9 nothing was received.
     ensures nothing { result ≢ 0 → result ≢ 8 → result ≢ 9 → O.written out.new ≡ O.written out.old }
 {
     match serve(alloc, words, shelf, out) {

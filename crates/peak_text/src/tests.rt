@@ -134,6 +134,11 @@ fn pairs_are_peaks_within_the_limits(rt: HostRuntime) -> Result<(), Fail> {
             assert_eq!(rt; peaks.intensity(), [3, intensity].as_slice());
         }
     }
+    let one = Peaks::of(alloc, &[(10_000_000_000_000, 1)])?;
+    assert_eq!(rt; one.map(|peaks| peaks.mz().len()), Some(1));
+    assert!(rt; Peaks::of(alloc, &[(0, 1)])?.is_none());
+    let none = Peaks::of(alloc, &[])?;
+    assert_eq!(rt; none.map(|peaks| peaks.mz().len()), Some(0));
     let mut pairs = Vec::new(alloc);
     for _ in 0..10_000 {
         pairs.push((1, 1))?;

@@ -1,0 +1,13 @@
+use Rattle.std.proofs.Common.{◌≡◌, ◌≤◌, ◌<◌, sym, ap, subst, ◌∙◌, arith, Err}
+use Rattle.decompose.specs.Masses.{AreMasses, base_of}
+use Rattle.candidates.proofs.AlphabetMasses.{are_masses, base_of-alphabet}
+use Rattle.candidates.proofs.ground.Ground.of.Goals as goal
+
+pub of-requires : goal.of-requires
+of-requires c = subst AreMasses (sym c.masses.ensures.masses) (are_masses c.args.alphabet c.masses.ensures.alphabet)
+
+pub unreachable-requires : goal.unreachable-requires
+unreachable-requires c =
+    let heavy = c.in-Err-BaseTooHeavy.ensures.too_heavy.0 (ap Err c.in-Err-BaseTooHeavy.field-0-is) in
+    let light = base_of-alphabet c.args.alphabet c.masses.ensures.alphabet in
+    absurd (omega (arith, heavy, light, ap base_of c.masses.ensures.masses))

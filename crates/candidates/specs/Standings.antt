@@ -1,0 +1,27 @@
+-- For proofs alone: what holds of an enumeration of candidates wherever it stands.
+use Rattle.std.specs.Prelude.{ℕ, ◌≡◌, ◌≤◌, Bool, true, IsTrue, List, length, is_some, Option, Some, None, IfSome, if◌then◌else◌}
+use Rattle.decompose.specs.CountLists.{IsInBox}
+use Rattle.decompose.specs.Enumeration.{after_given}
+use Rattle.mass_scaling.specs.declared.limits.TheConstants.{MAX_MZ}
+use Rattle.formula_text.specs.Formulas.{formula_of}
+use Rattle.candidates.specs.declared.search.Search.{Search}
+use Rattle.candidates.specs.Grounds.{GroundValue, IsGround}
+use Rattle.candidates.specs.PeakFormulas.{formulas_of_peak, counts_of, limits_of}
+use Rattle.candidates.specs.Searches.{IsSearch, Covers, candidates_in, todo}
+
+abbrev pub given_if : Bool → List ℕ → Option (List ℕ)
+given_if has_given last = if has_given then Some last else None
+
+-- a count list up to which it has come: one of the box that is a formula
+pub record IsToken (ground : GroundValue) (counts : List ℕ) : Type 0 where
+  pub in_box : IsInBox (limits_of ground.alphabet) counts
+  pub is_formula : is_some (formula_of (counts_of ground.alphabet counts)) ≡ true
+
+pub record IsStanding (ground : GroundValue) (mz : ℕ) (search : Search) (given : Option (List ℕ)) : Type 0 where
+  pub is_ground : IsGround ground
+  pub some_mz : 1 ≤ mz
+  pub few_mz : mz ≤ MAX_MZ
+  pub is_search : IsSearch ground search
+  pub covers : Covers ground mz search.decomps.window
+  pub token : IfSome given (IsToken ground)
+  pub rest : after_given (formulas_of_peak ground mz) given ≡ candidates_in ground mz (todo search)

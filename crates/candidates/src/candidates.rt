@@ -1,0 +1,217 @@
+//! The enumeration of the candidates of a peak.
+ghost use Rattle.std.specs.Prelude.{◌≡◌, ◌≤◌, ◌↔◌, [], ◌∷◌, IfOk, IfSome, OnOk, OnErr, IsErrOf, IsTrue, Some, None, map, option_map};
+ghost use Rattle.mass_scaling.specs.declared.limits.TheConstants.{MAX_MZ};
+ghost use Rattle.mass_scaling.specs.Windows.{IsWindow};
+ghost use Rattle.candidates.specs.PeakFormulas.{formulas_of_peak, formula_at, counts_in};
+ghost use Rattle.candidates.specs.Enumeration.{counts_left, formulas_left};
+ghost use Rattle.decompose.specs.Enumeration.{lists_after};
+ghost use Rattle.formula_text.specs.Formulas.{IsFormula, count_in};
+ghost use Rattle.candidates.specs.Searches.{Covers};
+ghost use Rattle.std.specs.List.{list_any};
+ghost use Rattle.written_items.specs.Items.{item_eq};
+ghost use Rattle.candidates.specs.Tokens.{IsInAlphabetBox, has_only, fits};
+
+use crate::ground::Ground;
+use crate::search::{Search, counts_of};
+use alphabet_text::Alphabet;
+use decompose::{Counts, Decomps, Limit, ResumeFault, Window};
+use formula_text::Formula;
+use mass_scaling::window_of;
+use outside_ports::Steps;
+use std::alloc::{AllocError, Global};
+use std::marker::Model;
+use std::mem;
+use std::sync::ledger::Ledger;
+use written_items::Item;
+
+/// Enumerates the candidates of a peak in lexicographic order of their counts, small counts first. Contracts see its
+/// ground, its m/z and the count list up to which it has come.
+#[derive(Drop)]
+pub struct Candidates<'t> {
+    alloc: Global,
+    ground: &'t Ground,
+    mz: u64,
+    search: Search<'t>,
+    /// The count list given last, once one was given.
+    last: Counts,
+    has_given: bool,
+}
+
+impl<'t> Model for Candidates<'t> {
+    ghost use Rattle.std.specs.Prelude.{◌≡◌, length};
+    ghost use Rattle.candidates.specs.Enumeration.{CandidateEnumeration};
+    ghost use Rattle.candidates.specs.Standings.{IsStanding, given_if};
+
+    ghost Value = { CandidateEnumeration };
+
+    ghost view = { λ c. record { ground = c.ground.now; mz = c.mz; given = given_if c.has_given c.last } };
+
+    ghost invariant = { λ c. (length c.last ≡ length c.ground.now.alphabet)
+        × IsStanding c.ground.now c.mz c.search (given_if c.has_given c.last) };
+}
+
+/// The window of a peak where no mass is within tolerance: no candidate has this mass.
+const NO_WINDOW: Window = Window { lo: 1, hi: 1 };
+
+/// A window in which each candidate of a peak has its mass.
+fn peak_window(ground: &Ground, mz: u64) -> Window
+    requires some_mz { 1 ≤ mz }
+    requires few_mz { mz ≤ MAX_MZ }
+    ensures window { IsWindow result }
+    ensures covers { Covers ground.now mz result }
+{
+    match window_of(mz, ground.tolerance(), ground.charged()) {
+        Some(window) => window,
+        None => NO_WINDOW,
+    }
+}
+
+impl<'t> Candidates<'t> {
+    /// The candidates of a peak from their start. The m/z is above 0 and at most 20,000 Da, in 10^-12 Da.
+    pub fn start(alloc: Global, ground: &'t Ground, mz: u64) -> Result<Candidates<'t>, AllocError>
+        requires some_mz { 1 ≤ mz }
+        requires few_mz { mz ≤ MAX_MZ }
+        ensures start { IfOk result (λ c. c ≡ record { ground = ground.now; mz = mz; given = None }) }
+        ensures all_left { IfOk result (λ c. counts_left c ≡ formulas_of_peak ground.now mz) }
+    {
+        let alphabet = ground.alphabet();
+        let window = peak_window(ground, mz);
+        let counts = Counts::zero(alloc, alphabet.items().len())?;
+        let last = Counts::zero(alloc, alphabet.items().len())?;
+        let decomps = Decomps::start(alloc, ground.tables(), alphabet.limits(), window)?;
+        let search = Search {
+            decomps,
+            counts,
+            is_pending: false,
+        };
+        Ok(Candidates {
+            alloc,
+            ground,
+            mz,
+            search,
+            last,
+            has_given: false,
+        })
+    }
+
+    /// The candidates of a peak whose counts come after those of a formula, which need not be one of them.
+    ///
+    /// `NotInBox` exactly where the formula has an item that isn't of the alphabet, or a count, also one of 0, that is
+    /// outside its limits.
+    pub fn resume(
+        alloc: Global,
+        ground: &'t Ground,
+        mz: u64,
+        after: &Formula,
+    ) -> Result<Candidates<'t>, ResumeFault>
+        requires some_mz { 1 ≤ mz }
+        requires few_mz { mz ≤ MAX_MZ }
+        ensures resumed { IfOk result (λ c. c ≡ record {
+          ground = ground.now;
+          mz = mz;
+          given = Some (counts_in ground.now.alphabet after.now);
+        }) }
+        ensures rest_left { IfOk result (λ c. counts_left c
+            ≡ lists_after (formulas_of_peak ground.now mz) (counts_in ground.now.alphabet after.now)) }
+        ensures in_box { OnOk result (IsInAlphabetBox ground.now.alphabet after.now) }
+        ensures not_in_box { IsErrOf result ResumeFault.NotInBox
+            ↔ (¬ IsInAlphabetBox ground.now.alphabet after.now) }
+    {
+        let alphabet = ground.alphabet();
+        if !is_in_box(alphabet, after) {
+            return Err(ResumeFault::NotInBox);
+        }
+        let last = counts_in(alloc, alphabet.items(), after)?;
+        let counts = Counts::zero(alloc, alphabet.items().len())?;
+        let window = peak_window(ground, mz);
+        let decomps = Decomps::resume(alloc, ground.tables(), alphabet.limits(), window, &last)?;
+        let search = Search {
+            decomps,
+            counts,
+            is_pending: false,
+        };
+        Ok(Candidates {
+            alloc,
+            ground,
+            mz,
+            search,
+            last,
+            has_given: true,
+        })
+    }
+
+    /// The next candidate, none exactly at the end. Without memory for it the same one is the next in a later call.
+    pub fn next<L: Ledger>(&mut self, steps: &mut Steps<L>) -> Result<Option<Formula>, AllocError>
+        ensures next { IfOk result (λ o. IfSome o (λ f.
+            formulas_left self.old ≡ f ∷ formulas_left self.new)) }
+        ensures end { IfOk result (λ o. (o ≡ None) ↔ (counts_left self.old ≡ [])) }
+        ensures at_end { IfOk result (λ o. o ≡ None → self.new ≡ self.old) }
+        ensures refused { OnErr result (self.new ≡ self.old) }
+        ensures peak { IfOk result (λ o. self.new.mz ≡ self.old.mz) }
+        ensures ground { IfOk result (λ o. self.new.ground ≡ self.old.ground) }
+    {
+        let found = self.search.find(self.alloc, self.ground, self.mz, steps)?;
+        if found.is_some() {
+            mem::swap(&mut self.search.counts, &mut self.last);
+            self.has_given = true;
+        }
+        Ok(found)
+    }
+
+    /// The formula of the count list given last, with which `resume` goes on. None where none was given since `start`.
+    pub fn token(&self) -> Result<Option<Formula>, AllocError>
+        ensures { IfOk result (λ token.
+            token ≡ option_map (formula_at self.now.ground.alphabet) self.now.given) }
+    {
+        if !self.has_given {
+            return Ok(None);
+        }
+        let parts = counts_of(self.alloc, self.ground.alphabet(), self.last.counts())?;
+        Formula::of(self.alloc, &parts)
+    }
+}
+
+/// The counts that a formula has of items.
+fn counts_in(alloc: Global, items: &[Item], formula: &Formula) -> Result<Counts, AllocError>
+    ensures { IfOk result (λ counts. counts ≡ map (count_in formula.now) items.now) }
+{
+    let counts: Vec<u32> = items
+        .iter()
+        .map(|item| formula.count(*item))
+        .collect(alloc)?;
+    Counts::of(alloc, &counts)
+}
+
+/// Whether each item of a formula is one of the alphabet and each count within its limits. Takes no memory.
+fn is_in_box(alphabet: &Alphabet, formula: &Formula) -> bool
+    ensures in_box { IsTrue result ↔ IsInAlphabetBox alphabet.now formula.now }
+    ensures formula { IsFormula formula.now }
+{
+    let items = alphabet.items();
+    has_only(items, formula) && fits(items, alphabet.limits(), formula)
+}
+
+/// Whether each item of a formula is one of these.
+fn has_only(items: &[Item], formula: &Formula) -> bool
+    ensures only { result ≡ has_only items.now formula.now }
+    ensures formula { IsFormula formula.now }
+{
+    let parts = formula.items();
+    parts.iter().all(|(item, _)| stands_in(items, item))
+}
+
+/// Whether an item is one of these.
+fn stands_in(items: &[Item], item: &Item) -> bool
+    ensures { result ≡ list_any (λ other. item_eq other item.now) items.now }
+{
+    items.iter().any(|other| other == item)
+}
+
+/// Whether the counts that a formula has of items are within their limits.
+fn fits(items: &[Item], limits: &[Limit], formula: &Formula) -> bool
+    ensures { result ≡ fits items.now limits.now formula.now }
+{
+    items.iter().zip(limits).all(|(item, limit)| {
+        limit.low <= formula.count(*item) && formula.count(*item) <= limit.high
+    })
+}

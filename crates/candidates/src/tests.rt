@@ -1,0 +1,179 @@
+//! The candidates of peaks, with ample memory.
+ghost use Rattle.std.specs.Prelude.{◌≡◌, ◌<◌, ◌≤◌};
+ghost use Rattle.mass_scaling.specs.declared.limits.TheConstants.{MAX_MZ};
+
+use super::*;
+use adducts::read_adduct;
+use alphabet_text::read_alphabet;
+use element_table::{Table, read_table};
+use formula_text::{Formula, read_formula};
+use golden_rules::{Rules, read_rules};
+use mass_scaling::{MAX_DA, MAX_MZ, Tolerance};
+use outside_ports::Steps;
+use std::alloc::Global;
+use std::marker::Brand;
+use std::process::Abort;
+use std::sync::ledger::{Blank, Ledger};
+use std::test::Fail;
+
+const ELEMENTS: &[u8] = b"symbol,number,mass,abundance,valence
+e-,0,0.000548579909,0,0
+H,1,1.00782503223,0.999885,1
+C,12,12,0.9893,4
+C,13,13.00335483507,0.0107,4
+O,16,15.99491461957,0.99757,2
+A,10,10,1,1
+B,10,10.00001,1,1
+Na,23,22.989769282,1,1
+";
+
+/// A case: the alphabet, the adduct, the rules, the m/z, the tolerance in Da, and the candidates as they are printed.
+#[derive(Drop)]
+struct Case {
+    alphabet: &'static [u8],
+    adduct: &'static [u8],
+    rules: &'static [u8],
+    mz: u64,
+    da: u64,
+    formulas: &'static [&'static [u8]],
+}
+
+fn ground_of(alloc: Global, case: &Case) -> Result<Ground, Fail> {
+    let table = read_table(alloc, ELEMENTS)?;
+    let alphabet = read_alphabet(alloc, &table, case.alphabet)?;
+    let adduct = read_adduct(alloc, &table, case.adduct)?;
+    let rules = read_rules(alloc, &table, case.rules)?;
+    let tolerance = Tolerance::Da {
+        units: case.da.min(MAX_DA),
+    };
+    Ok(Ground::of(alloc, table, alphabet, adduct, tolerance, rules)?)
+}
+
+/// Takes all candidates of a case, with the token after each, and compares their printed texts.
+fn expect_with<L: Ledger>(
+    rt: &impl Abort,
+    alloc: Global,
+    case: &Case,
+    ground: &Ground,
+    blank: Blank,
+) -> Result<(), Fail>
+    requires mz { 1 ≤ case.now.mz }
+    requires few_mz { case.now.mz ≤ MAX_MZ }
+    requires name { blank.name ≡ L.name }
+    requires parts { blank.parts ≡ L.parts }
+    requires some { 0 < blank.parts }
+{
+    let mut steps = Steps::<L>::new(blank);
+    let mut candidates = Candidates::start(alloc, ground, case.mz)?;
+    assert!(rt; candidates.token()?.is_none());
+    for (place, text) in case.formulas.iter().enumerate() {
+        let formula = candidates.next(&mut steps)?.ok_or("a candidate")?;
+        let printed = formula.print()?;
+        assert_eq!(rt; printed.as_slice(), *text);
+        let token: Formula = candidates.token()?.ok_or("a token")?;
+        assert_eq!(rt; token.items(), formula.items());
+        let mut rest = Candidates::resume(alloc, ground, case.mz, &token)?;
+        let told: Formula = rest.token()?.ok_or("a token")?;
+        assert_eq!(rt; told.items(), formula.items());
+        let next = rest.next(&mut steps)?;
+        assert_eq!(rt; next.is_some(), place < case.formulas.len() - 1);
+    }
+    assert!(rt; candidates.next(&mut steps)?.is_none());
+    assert!(rt; candidates.next(&mut steps)?.is_none());
+    Ok(())
+}
+
+fn expect_formulas(rt: &impl Abort, alloc: Global, case: &Case) -> Result<(), Fail>
+    requires mz { 1 ≤ case.now.mz }
+    requires few_mz { case.now.mz ≤ MAX_MZ }
+{
+    let ground = ground_of(alloc, case)?;
+    expect_with::<Brand>(rt, alloc, case, &ground, Blank::new(1))
+}
+
+#[test]
+fn the_formulas_of_a_peak_come_in_order(rt: HostRuntime) -> Result<(), Fail> {
+    let cases: &[Case] = &[
+        Case {
+            alphabet: b"CHO",
+            adduct: b"M",
+            rules: b"",
+            mz: 180_063_388_104_180,
+            da: 0,
+            formulas: &[b"C6H12O6"],
+        },
+        Case {
+            alphabet: b"AB",
+            adduct: b"M",
+            rules: b"",
+            mz: 10_000_000_000_000,
+            da: 10_000_000,
+            formulas: &[b"A", b"B"],
+        },
+        Case {
+            alphabet: b"CHO",
+            adduct: b"M",
+            rules: b"",
+            mz: 1_000_000_000_000,
+            da: 2_000_000_000_000,
+            formulas: &[b"H", b"H2"],
+        },
+        Case {
+            alphabet: b"CHO",
+            adduct: b"M",
+            rules: b"senior",
+            mz: 1_000_000_000_000,
+            da: 2_000_000_000_000,
+            formulas: &[b"H2"],
+        },
+        Case {
+            alphabet: b"CHO",
+            adduct: b"[M-H2O+H]+",
+            rules: b"",
+            mz: 29_038_576_581_241,
+            da: 40_000_000_000,
+            formulas: &[b"C2H6O", b"CH2O2"],
+        },
+        Case {
+            alphabet: b"C0-1H3-9",
+            adduct: b"[M-H]-",
+            rules: b"",
+            mz: 1_000_000_000_000,
+            da: 0,
+            formulas: &[],
+        },
+    ];
+    for case in cases {
+        if case.mz >= 1 && case.mz <= MAX_MZ {
+            expect_formulas(&rt, rt.alloc(), case)?;
+        }
+    }
+    Ok(())
+}
+
+#[test]
+fn a_formula_of_the_box_is_a_token_and_no_other(rt: HostRuntime) -> Result<(), Fail> {
+    let alloc = rt.alloc();
+    let case = Case {
+        alphabet: b"A1-10000B",
+        adduct: b"M",
+        rules: b"",
+        mz: 10_000_000_000_000,
+        da: 10_000_000,
+        formulas: &[],
+    };
+    let ground = ground_of(alloc, &case)?;
+    let rows: &[(&[u8], bool)] = &[
+        (b"A", true),
+        (b"A10000", true),
+        (b"AB10000", true),
+        (b"B", false),
+        (b"AH", false),
+    ];
+    for (text, is_token) in rows {
+        let formula = read_formula(alloc, ground.table(), text)?;
+        let resumed = Candidates::resume(alloc, &ground, 10_000_000_000_000, &formula);
+        assert_eq!(rt; resumed.is_ok(), *is_token);
+    }
+    Ok(())
+}
