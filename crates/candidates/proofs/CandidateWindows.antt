@@ -24,90 +24,90 @@ use Rattle.candidates.specs.PeakFormulas.{counts_of, candidate_if, candidate_of,
 use Rattle.candidates.specs.Searches.{Covers, masses_of}
 use Rattle.candidates.proofs.AlphabetCounts.{mass-counts, heavy-counts}
 
--- the ions of the ground's adduct as a window takes them
+-- the ions of the premises's adduct as a window takes them
 abbrev pub charged_of : GroundValue → Charged
-charged_of ground =
+charged_of premises =
     record {
-      copies = ground.adduct.copies;
-      divisor = divisor_of ground.adduct;
-      shift = shift_of ground.table ground.adduct;
+      copies = premises.adduct.copies;
+      divisor = divisor_of premises.adduct;
+      shift = shift_of premises.table premises.adduct;
     }
 
-record Candidate (ground : GroundValue) (mz : ℕ) (counts : List ℕ) : Type 0 where
+record Candidate (premises : GroundValue) (mz : ℕ) (counts : List ℕ) : Type 0 where
   formula : List (Item × ℕ)
-  made : formula_of (counts_of ground.alphabet counts) ≡ Some formula
-  passes : is_ion_within ground mz (ion_mass ground.table ground.adduct formula) ≡ true
+  made : formula_of (counts_of premises.alphabet counts) ≡ Some formula
+  passes : is_ion_within premises mz (ion_mass premises.table premises.adduct formula) ≡ true
 
-candidate : (ground : GroundValue) (mz : ℕ) (counts : List ℕ) → is_candidate ground mz counts ≡ true
-    → Candidate ground mz counts
-candidate ground mz counts h = cases (formula_of (counts_of ground.alphabet counts)) refl h
+candidate : (premises : GroundValue) (mz : ℕ) (counts : List ℕ) → is_candidate premises mz counts ≡ true
+    → Candidate premises mz counts
+candidate premises mz counts h = cases (formula_of (counts_of premises.alphabet counts)) refl h
   where
     inner : (f : List (Item × ℕ)) (b : Bool) → is_some (cond b (Some f) None) ≡ true → b ≡ true
     inner f true h = refl
     inner f false h = absurd (false≢true h)
 
-    cases : (o : Option (List (Item × ℕ))) → formula_of (counts_of ground.alphabet counts) ≡ o
-        → is_some (candidate_if ground mz o) ≡ true → Candidate ground mz counts
+    cases : (o : Option (List (Item × ℕ))) → formula_of (counts_of premises.alphabet counts) ≡ o
+        → is_some (candidate_if premises mz o) ≡ true → Candidate premises mz counts
     cases None e h = absurd (false≢true h)
     cases (Some f) e h =
         record {
           formula = f;
           made = e;
           passes =
-              (and_parts (is_ion_within ground mz (ion_mass ground.table ground.adduct f)) (meets_rules ground f)
-              (inner f (is_ion_within ground mz (ion_mass ground.table ground.adduct f) && meets_rules ground f) h)).0;
+              (and_parts (is_ion_within premises mz (ion_mass premises.table premises.adduct f)) (meets_rules premises f)
+              (inner f (is_ion_within premises mz (ion_mass premises.table premises.adduct f) && meets_rules premises f) h)).0;
         }
 
 -- the mass of a candidate's count list is one whose ion is within tolerance
-candidate-within : (ground : GroundValue) (mz : ℕ) (counts : List ℕ) → IsGround ground
-    → is_candidate ground mz counts ≡ true
-    → (1 ≤ lists.mass_of (masses_of ground.alphabet) counts)
-    × IsMassWithin mz ground.tolerance (charged_of ground) (lists.mass_of (masses_of ground.alphabet) counts)
-candidate-within ground mz counts is h =
-    let found = candidate ground mz counts h in
+candidate-within : (premises : GroundValue) (mz : ℕ) (counts : List ℕ) → IsGround premises
+    → is_candidate premises mz counts ≡ true
+    → (1 ≤ lists.mass_of (masses_of premises.alphabet) counts)
+    × IsMassWithin mz premises.tolerance (charged_of premises) (lists.mass_of (masses_of premises.alphabet) counts)
+candidate-within premises mz counts is h =
+    let found = candidate premises mz counts h in
     let f = found.formula in
-    let parts = counts_of ground.alphabet counts in
+    let parts = counts_of premises.alphabet counts in
     let sums = formula-is_sum parts f found.made in
-    let mass : mass_of ground.table f ≡ lists.mass_of (masses_of ground.alphabet) counts =
-    ap (mass_of ground.table) sums.0 ∙ weigh-sum_of (item_mass ground.table) parts
-    ∙ mass-counts ground.table ground.alphabet counts is.entries in
-    let heavy = heavy-counts ground.alphabet counts is.is_alphabet in
+    let mass : mass_of premises.table f ≡ lists.mass_of (masses_of premises.alphabet) counts =
+    ap (mass_of premises.table) sums.0 ∙ weigh-sum_of (item_mass premises.table) parts
+    ∙ mass-counts premises.table premises.alphabet counts is.entries in
+    let heavy = heavy-counts premises.alphabet counts is.is_alphabet in
     let atoms : 1 ≤ atoms_of parts =
     subst (λ n. 1 ≤ n) (ap atoms_of sums.0 ∙ sum_of-atoms parts) (some-atoms f sums.0 sums.1) in
     let distinct : Distinct f = subst Distinct (sym sums.0) (sum-Distinct parts) in (
       omega (arith, heavy, atoms),
-      subst (IsMassWithin mz ground.tolerance (charged_of ground)) mass
-          (ions (ion_of ground.adduct f) refl distinct found.passes),
+      subst (IsMassWithin mz premises.tolerance (charged_of premises)) mass
+          (ions (ion_of premises.adduct f) refl distinct found.passes),
     )
   where
-    some-atoms : (f : List (Item × ℕ)) → f ≡ sum_of (counts_of ground.alphabet counts) → 0 < length f → 1 ≤ atoms_of f
-    some-atoms f same some = first f some (subst (AllByRecursion HasAtoms) (sym same) (sum_of-positive (counts_of ground.alphabet counts)))
+    some-atoms : (f : List (Item × ℕ)) → f ≡ sum_of (counts_of premises.alphabet counts) → 0 < length f → 1 ≤ atoms_of f
+    some-atoms f same some = first f some (subst (AllByRecursion HasAtoms) (sym same) (sum_of-positive (counts_of premises.alphabet counts)))
       where
         first : (l : List (Item × ℕ)) → 0 < length l → AllByRecursion HasAtoms l → 1 ≤ atoms_of l
         first [] some h = absurd (omega (arith, some))
         first (p ∷ ps) some h = let cons = atoms_of-cons p ps in omega (arith, cons, h.0)
 
-    ions : (o : Option (List (Item × ℕ))) → ion_of ground.adduct (candidate ground mz counts h).formula ≡ o
-        → Distinct (candidate ground mz counts h).formula
-        → is_ion_within ground mz (ion_mass ground.table ground.adduct (candidate ground mz counts h).formula) ≡ true
-        → IsMassWithin mz ground.tolerance (charged_of ground) (mass_of ground.table (candidate ground mz counts h).formula)
+    ions : (o : Option (List (Item × ℕ))) → ion_of premises.adduct (candidate premises mz counts h).formula ≡ o
+        → Distinct (candidate premises mz counts h).formula
+        → is_ion_within premises mz (ion_mass premises.table premises.adduct (candidate premises mz counts h).formula) ≡ true
+        → IsMassWithin mz premises.tolerance (charged_of premises) (mass_of premises.table (candidate premises mz counts h).formula)
     ions None e distinct passes =
-        absurd (false≢true (sym (ap (λ o. is_ion_within ground mz (option_map (mass_of_ion ground.table ground.adduct) o)) e)
+        absurd (false≢true (sym (ap (λ o. is_ion_within premises mz (option_map (mass_of_ion premises.table premises.adduct) o)) e)
         ∙ passes))
     ions (Some ion) e distinct passes =
-        subst (λ m. is_ion_within ground mz (Some m) ≡ true)
-        (ion_of-shift ground.table ground.adduct (candidate ground mz counts h).formula ion is.is_adduct distinct e)
-        (sym (ap (λ o. is_ion_within ground mz (option_map (mass_of_ion ground.table ground.adduct) o)) e) ∙ passes)
+        subst (λ m. is_ion_within premises mz (Some m) ≡ true)
+        (ion_of-shift premises.table premises.adduct (candidate premises mz counts h).formula ion is.is_adduct distinct e)
+        (sym (ap (λ o. is_ion_within premises mz (option_map (mass_of_ion premises.table premises.adduct) o)) e) ∙ passes)
 
 inside : (window : Window) (mass : ℕ) → window.lo ≤ mass → mass ≤ window.hi → is_within window mass ≡ true
 inside window mass low high = grind (arith, nat_tests, low, high)
 
 -- the window of a peak covers its candidates
-pub window-covers : (ground : GroundValue) (mz : ℕ) (window : Window) → IsGround ground
-    → IsWindowOf mz ground.tolerance (charged_of ground) window → Covers ground mz window
-window-covers ground mz window is of counts h =
-    let mass = lists.mass_of (masses_of ground.alphabet) counts in
-    let within = candidate-within ground mz counts is h in
+pub window-covers : (premises : GroundValue) (mz : ℕ) (window : Window) → IsGround premises
+    → IsWindowOf mz premises.tolerance (charged_of premises) window → Covers premises mz window
+window-covers premises mz window is of counts h =
+    let mass = lists.mass_of (masses_of premises.alphabet) counts in
+    let within = candidate-within premises mz counts is h in
     inside window mass
     (elim (cases_lt mass window.lo) [
       | inl below ↦ absurd (of.none_below mass within.0 below within.1)
@@ -119,8 +119,8 @@ window-covers ground mz window is of counts h =
     ])
 
 -- where no mass is within tolerance there is no candidate, so that any window covers them
-pub none-covers : (ground : GroundValue) (mz : ℕ) (window : Window) → IsGround ground
-    → NoMassIsWithin mz ground.tolerance (charged_of ground) → Covers ground mz window
-none-covers ground mz window is none counts h =
-    let within = candidate-within ground mz counts is h in
-    absurd (none (lists.mass_of (masses_of ground.alphabet) counts) within.0 within.1)
+pub none-covers : (premises : GroundValue) (mz : ℕ) (window : Window) → IsGround premises
+    → NoMassIsWithin mz premises.tolerance (charged_of premises) → Covers premises mz window
+none-covers premises mz window is none counts h =
+    let within = candidate-within premises mz counts is h in
+    absurd (none (lists.mass_of (masses_of premises.alphabet) counts) within.0 within.1)

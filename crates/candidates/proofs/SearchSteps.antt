@@ -76,23 +76,23 @@ takes-next state new out false idle step =
 -- ---- the state
 
 -- what the loop over the count lists keeps
-pub record SoFar (ground : GroundValue) (mz : ℕ) (initial state : Search) : Type 0 where
-  pub is_search : IsSearch ground state
+pub record SoFar (premises : GroundValue) (mz : ℕ) (initial state : Search) : Type 0 where
+  pub is_search : IsSearch premises state
   pub goes : GoesOn initial state
-  pub same : candidates_in ground mz (todo state) ≡ candidates_in ground mz (todo initial)
+  pub same : candidates_in premises mz (todo state) ≡ candidates_in premises mz (todo initial)
 
-pub so_far-begins : (ground : GroundValue) (mz : ℕ) (state : Search) → IsSearch ground state
-    → SoFar ground mz state state
-so_far-begins ground mz state is =
+pub so_far-begins : (premises : GroundValue) (mz : ℕ) (state : Search) → IsSearch premises state
+    → SoFar premises mz state state
+so_far-begins premises mz state is =
     record { is_search = is; goes = record { masses = refl; limits = refl; window = refl }; same = refl }
 
 goes-both : (a b c : Search) → GoesOn a b → GoesOn b c → GoesOn a c
 goes-both a b c g h =
     record { masses = h.masses ∙ g.masses; limits = h.limits ∙ g.limits; window = h.window ∙ g.window }
 
-taken-state : (ground : GroundValue) (old new : Search) (taken : Bool) → IsSearch ground old → Takes old new taken
-    → IsSearch ground new
-taken-state ground old new taken is takes =
+taken-state : (premises : GroundValue) (old new : Search) (taken : Bool) → IsSearch premises old → Takes old new taken
+    → IsSearch premises new
+taken-state premises old new taken is takes =
     record {
       masses = takes.goes.masses ∙ is.masses;
       limits = takes.goes.limits ∙ is.limits;
@@ -114,23 +114,23 @@ taken-state ground old new taken is takes =
     box false e h = subst (λ l. IsInBox l new.counts) (sym takes.goes.limits) (takes.in_box e h)
 
 -- after a list was taken
-pub so_far-taken : (ground : GroundValue) (mz : ℕ) (initial old new : Search) (taken : Bool) → SoFar ground mz initial old
-    → Takes old new taken → SoFar ground mz initial new
-so_far-taken ground mz initial old new taken so_far takes =
+pub so_far-taken : (premises : GroundValue) (mz : ℕ) (initial old new : Search) (taken : Bool) → SoFar premises mz initial old
+    → Takes old new taken → SoFar premises mz initial new
+so_far-taken premises mz initial old new taken so_far takes =
     record {
-      is_search = taken-state ground old new taken so_far.is_search takes;
+      is_search = taken-state premises old new taken so_far.is_search takes;
       goes = goes-both initial old new so_far.goes takes.goes;
-      same = ap (candidates_in ground mz) takes.same ∙ so_far.same;
+      same = ap (candidates_in premises mz) takes.same ∙ so_far.same;
     }
 
 abbrev tested : Search → Search
 tested state = record { decomps = state.decomps; counts = state.counts; is_pending = false }
 
 -- a list that is no candidate is passed over
-pub so_far-passed : (ground : GroundValue) (mz : ℕ) (initial state : Search) → SoFar ground mz initial state
-    → state.is_pending ≡ true → candidate_of ground mz state.counts ≡ None
-    → SoFar ground mz initial (record { decomps = state.decomps; counts = state.counts; is_pending = false })
-so_far-passed ground mz initial state so_far h none =
+pub so_far-passed : (premises : GroundValue) (mz : ℕ) (initial state : Search) → SoFar premises mz initial state
+    → state.is_pending ≡ true → candidate_of premises mz state.counts ≡ None
+    → SoFar premises mz initial (record { decomps = state.decomps; counts = state.counts; is_pending = false })
+so_far-passed premises mz initial state so_far h none =
     let is = so_far.is_search in
     record {
       is_search =
@@ -143,9 +143,9 @@ so_far-passed ground mz initial state so_far h none =
           };
       goes = record { masses = so_far.goes.masses; limits = so_far.goes.limits; window = so_far.goes.window };
       same =
-          sym (ap (λ b. cond b (state.counts ∷ candidates_in ground mz (left state.decomps))
-          (candidates_in ground mz (left state.decomps))) (ap is_some none))
-          ∙ sym (ap (λ b. candidates_in ground mz (pending b state.counts ++ left state.decomps)) h)
+          sym (ap (λ b. cond b (state.counts ∷ candidates_in premises mz (left state.decomps))
+          (candidates_in premises mz (left state.decomps))) (ap is_some none))
+          ∙ sym (ap (λ b. candidates_in premises mz (pending b state.counts ++ left state.decomps)) h)
           ∙ so_far.same;
     }
 
@@ -159,23 +159,23 @@ todo-less old new takes =
 
 -- ---- how it ends
 
-pub finds-none : (ground : GroundValue) (mz : ℕ) (initial old new : Search) → SoFar ground mz initial old
-    → Takes old new false → Finds ground mz initial new (Ok None)
-finds-none ground mz initial old new so_far takes =
-    let next = so_far-taken ground mz initial old new false so_far takes in
+pub finds-none : (premises : GroundValue) (mz : ℕ) (initial old new : Search) → SoFar premises mz initial old
+    → Takes old new false → Finds premises mz initial new (Ok None)
+finds-none premises mz initial old new so_far takes =
+    let next = so_far-taken premises mz initial old new false so_far takes in
     let none : todo new ≡ [] =
     ap (λ b. pending b new.counts ++ left new.decomps) takes.is ∙ takes.none refl in
     record {
       stands = next.is_search;
       goes = next.goes;
-      outcome = (sym next.same ∙ ap (candidates_in ground mz) none, ap (candidates_in ground mz) none);
+      outcome = (sym next.same ∙ ap (candidates_in premises mz) none, ap (candidates_in premises mz) none);
     }
 
-pub finds-some : (ground : GroundValue) (mz : ℕ) (initial state : Search) (formula : List (Item × ℕ))
-    → SoFar ground mz initial state → state.is_pending ≡ true
-    → candidate_of ground mz state.counts ≡ Some formula
-    → Finds ground mz initial (record { decomps = state.decomps; counts = state.counts; is_pending = false }) (Ok (Some formula))
-finds-some ground mz initial state formula so_far h found =
+pub finds-some : (premises : GroundValue) (mz : ℕ) (initial state : Search) (formula : List (Item × ℕ))
+    → SoFar premises mz initial state → state.is_pending ≡ true
+    → candidate_of premises mz state.counts ≡ Some formula
+    → Finds premises mz initial (record { decomps = state.decomps; counts = state.counts; is_pending = false }) (Ok (Some formula))
+finds-some premises mz initial state formula so_far h found =
     let is = so_far.is_search in
     record {
       stands =
@@ -191,9 +191,9 @@ finds-some ground mz initial state formula so_far h found =
           record {
             first =
                 sym so_far.same
-                ∙ ap (λ b. candidates_in ground mz (pending b state.counts ++ left state.decomps)) h
-                ∙ ap (λ b. cond b (state.counts ∷ candidates_in ground mz (left state.decomps))
-                (candidates_in ground mz (left state.decomps))) (ap is_some found);
+                ∙ ap (λ b. candidates_in premises mz (pending b state.counts ++ left state.decomps)) h
+                ∙ ap (λ b. cond b (state.counts ∷ candidates_in premises mz (left state.decomps))
+                (candidates_in premises mz (left state.decomps))) (ap is_some found);
             tested = refl;
             given = is.taken h;
             in_box = is.in_box h;

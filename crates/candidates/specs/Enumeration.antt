@@ -5,16 +5,16 @@ use Rattle.decompose.specs.Enumeration.{after_given}
 use Rattle.candidates.specs.Grounds.{GroundValue}
 use Rattle.candidates.specs.PeakFormulas.{formulas_of_peak, formula_at}
 
--- on which ground and at which m/z it goes, and the count list up to which it has come, if it has begun
+-- on which premises and at which m/z it goes, and the count list up to which it has come, if it has begun
 pub record CandidateEnumeration : Type 0 where
-  pub ground : GroundValue
+  pub premises : GroundValue
   pub mz : ℕ
   pub given : Option (List ℕ)
 
 -- the count lists that are left
 abbrev pub counts_left : CandidateEnumeration → List (List ℕ)
-counts_left e = after_given (formulas_of_peak e.ground e.mz) e.given
+counts_left e = after_given (formulas_of_peak e.premises e.mz) e.given
 
 -- the formulas that are left
 abbrev pub formulas_left : CandidateEnumeration → List (List (Item × ℕ))
-formulas_left e = map (formula_at e.ground.alphabet) (counts_left e)
+formulas_left e = map (formula_at e.premises.alphabet) (counts_left e)

@@ -1,4 +1,4 @@
--- The ground on which the formulas of peaks are listed: a table, an alphabet, an adduct, a tolerance and rules.
+-- The premises on which the formulas of peaks are listed: a table, an alphabet, an adduct, a tolerance and rules.
 use Rattle.std.specs.Prelude.{List, All}
 use Rattle.element_table.specs.Elements.{TableEntries}
 use Rattle.mass_scaling.specs.declared.tolerances.Tolerance.{Tolerance}
@@ -17,10 +17,10 @@ pub record GroundValue : Type 0 where
   pub rules : List Rule
 
 -- the alphabet and the adduct are of the table, and the tolerance is within its limits
-pub record IsGround (ground : GroundValue) : Type 0 where
-  pub is_alphabet : IsAlphabet ground.alphabet
-  pub entries : All (IsEntryOf ground.table) ground.alphabet
-  pub is_adduct : IsAdduct ground.adduct
-  pub added_known : HasItems ground.table ground.adduct.added
-  pub lost_known : HasItems ground.table ground.adduct.lost
-  pub is_tolerance : IsTolerance ground.tolerance
+pub record IsGround (premises : GroundValue) : Type 0 where
+  pub is_alphabet : IsAlphabet premises.alphabet
+  pub entries : All (IsEntryOf premises.table) premises.alphabet
+  pub is_adduct : IsAdduct premises.adduct
+  pub added_known : HasItems premises.table premises.adduct.added
+  pub lost_known : HasItems premises.table premises.adduct.lost
+  pub is_tolerance : IsTolerance premises.tolerance

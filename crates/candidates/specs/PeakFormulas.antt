@@ -34,8 +34,8 @@ limits_of alphabet = map (λ entry. entry.limit) alphabet
 
 -- whether there is an ion whose mass is within tolerance of an m/z
 abbrev pub is_ion_within : GroundValue → ℕ → Option ℤ → Bool
-is_ion_within ground mz None = false
-is_ion_within ground mz (Some mass) = within mass mz ground.tolerance (divisor_of ground.adduct)
+is_ion_within premises mz None = false
+is_ion_within premises mz (Some mass) = within mass mz premises.tolerance (divisor_of premises.adduct)
 
 -- whether a verdict of rules is that a formula meets them all
 abbrev pub is_pass : Verdict → Bool
@@ -44,22 +44,22 @@ is_pass (Fails rule) = false
 
 -- whether a formula meets the rules
 abbrev pub meets_rules : GroundValue → List (Item × ℕ) → Bool
-meets_rules ground formula = is_pass (verdict ground.table ground.rules formula)
+meets_rules premises formula = is_pass (verdict premises.table premises.rules formula)
 
 -- a formula if its ion is defined and within tolerance of an m/z, by its exact mass, and it meets the rules
 abbrev pub candidate_if : GroundValue → ℕ → Option (List (Item × ℕ)) → Option (List (Item × ℕ))
-candidate_if ground mz None = None
-candidate_if ground mz (Some formula) =
-    if is_ion_within ground mz (ion_mass ground.table ground.adduct formula)
-    && meets_rules ground formula then Some formula else None
+candidate_if premises mz None = None
+candidate_if premises mz (Some formula) =
+    if is_ion_within premises mz (ion_mass premises.table premises.adduct formula)
+    && meets_rules premises formula then Some formula else None
 
 -- the candidate of a count list: its formula, if it is one within the limits, with an atom, and passes
 abbrev pub candidate_of : GroundValue → ℕ → List ℕ → Option (List (Item × ℕ))
-candidate_of ground mz counts = candidate_if ground mz (formula_of (counts_of ground.alphabet counts))
+candidate_of premises mz counts = candidate_if premises mz (formula_of (counts_of premises.alphabet counts))
 
 abbrev pub is_candidate : GroundValue → ℕ → List ℕ → Bool
-is_candidate ground mz counts = is_some (candidate_of ground mz counts)
+is_candidate premises mz counts = is_some (candidate_of premises mz counts)
 
 -- the formulas of a peak, by their count lists: all of the alphabet's box that are candidates, in lexicographic order
 unfoldable pub formulas_of_peak : GroundValue → ℕ → List (List ℕ)
-formulas_of_peak ground mz = filter (is_candidate ground mz) (box_of (limits_of ground.alphabet))
+formulas_of_peak premises mz = filter (is_candidate premises mz) (box_of (limits_of premises.alphabet))

@@ -14,8 +14,8 @@ use Rattle.candidates.specs.PeakFormulas.{is_ion_within, meets_rules, is_candida
 
 -- whether a formula passes
 abbrev pub passes : GroundValue → ℕ → List (Item × ℕ) → Bool
-passes ground mz formula =
-    is_ion_within ground mz (ion_mass ground.table ground.adduct formula) && meets_rules ground formula
+passes premises mz formula =
+    is_ion_within premises mz (ion_mass premises.table premises.adduct formula) && meets_rules premises formula
 
 abbrev pub masses_of : List AlphabetEntry → List ℕ
 masses_of alphabet = map (λ entry. entry.mass) alphabet
@@ -29,10 +29,10 @@ abbrev pub todo : Search → List (List ℕ)
 todo search = pending search.is_pending search.counts ++ left search.decomps
 
 -- the search goes over the alphabet's box, and a count list to be tested was taken last
-pub record IsSearch (ground : GroundValue) (search : Search) : Type 0 where
-  pub masses : search.decomps.masses ≡ masses_of ground.alphabet
-  pub limits : search.decomps.limits ≡ limits_of ground.alphabet
-  pub size : length search.counts ≡ length ground.alphabet
+pub record IsSearch (premises : GroundValue) (search : Search) : Type 0 where
+  pub masses : search.decomps.masses ≡ masses_of premises.alphabet
+  pub limits : search.decomps.limits ≡ limits_of premises.alphabet
+  pub size : length search.counts ≡ length premises.alphabet
   pub taken : search.is_pending ≡ true → search.decomps.given ≡ Some search.counts
   pub in_box : search.is_pending ≡ true → IsInBox search.decomps.limits search.counts
 
@@ -53,29 +53,29 @@ pub record Takes (old new : Search) (taken : Bool) : Type 0 where
   pub in_box : old.is_pending ≡ false → taken ≡ true → IsInBox old.decomps.limits new.counts
 
 abbrev pub candidates_in : GroundValue → ℕ → List (List ℕ) → List (List ℕ)
-candidates_in ground mz list = filter (is_candidate ground mz) list
+candidates_in premises mz list = filter (is_candidate premises mz) list
 
 -- a candidate was found: it is that of the count list taken last
-pub record IsFound (ground : GroundValue) (mz : ℕ) (old new : Search) (formula : List (Item × ℕ)) : Type 0 where
-  pub first : candidates_in ground mz (todo old) ≡ new.counts ∷ candidates_in ground mz (left new.decomps)
+pub record IsFound (premises : GroundValue) (mz : ℕ) (old new : Search) (formula : List (Item × ℕ)) : Type 0 where
+  pub first : candidates_in premises mz (todo old) ≡ new.counts ∷ candidates_in premises mz (left new.decomps)
   pub tested : new.is_pending ≡ false
   pub given : new.decomps.given ≡ Some new.counts
   pub in_box : IsInBox new.decomps.limits new.counts
-  pub candidate : candidate_of ground mz new.counts ≡ Some formula
+  pub candidate : candidate_of premises mz new.counts ≡ Some formula
 
 abbrev pub Outcome : GroundValue → ℕ → Search → Search → Result (Option (List (Item × ℕ))) AllocError → Type 0
-Outcome ground mz old new (Ok None) =
-    (candidates_in ground mz (todo old) ≡ []) × (candidates_in ground mz (todo new) ≡ [])
-Outcome ground mz old new (Ok (Some formula)) = IsFound ground mz old new formula
-Outcome ground mz old new (Err e) = candidates_in ground mz (todo new) ≡ candidates_in ground mz (todo old)
+Outcome premises mz old new (Ok None) =
+    (candidates_in premises mz (todo old) ≡ []) × (candidates_in premises mz (todo new) ≡ [])
+Outcome premises mz old new (Ok (Some formula)) = IsFound premises mz old new formula
+Outcome premises mz old new (Err e) = candidates_in premises mz (todo new) ≡ candidates_in premises mz (todo old)
 
-pub record Finds (ground : GroundValue) (mz : ℕ) (old new : Search) (result : Result (Option (List (Item × ℕ))) AllocError) : Type 0 where
-  pub stands : IsSearch ground new
+pub record Finds (premises : GroundValue) (mz : ℕ) (old new : Search) (result : Result (Option (List (Item × ℕ))) AllocError) : Type 0 where
+  pub stands : IsSearch premises new
   pub goes : GoesOn old new
-  pub outcome : Outcome ground mz old new result
+  pub outcome : Outcome premises mz old new result
 
 -- each candidate has its mass in the window
 abbrev pub Covers : GroundValue → ℕ → Window → Type 0
-Covers ground mz window =
-    (counts : List ℕ) → is_candidate ground mz counts ≡ true
-    → is_within window (mass_of (masses_of ground.alphabet) counts) ≡ true
+Covers premises mz window =
+    (counts : List ℕ) → is_candidate premises mz counts ≡ true
+    → is_within window (mass_of (masses_of premises.alphabet) counts) ≡ true

@@ -13,15 +13,15 @@ abbrev pub given_if : Bool → List ℕ → Option (List ℕ)
 given_if has_given last = if has_given then Some last else None
 
 -- a count list up to which it has come: one of the box that is a formula
-pub record IsToken (ground : GroundValue) (counts : List ℕ) : Type 0 where
-  pub in_box : IsInBox (limits_of ground.alphabet) counts
-  pub is_formula : is_some (formula_of (counts_of ground.alphabet counts)) ≡ true
+pub record IsToken (premises : GroundValue) (counts : List ℕ) : Type 0 where
+  pub in_box : IsInBox (limits_of premises.alphabet) counts
+  pub is_formula : is_some (formula_of (counts_of premises.alphabet counts)) ≡ true
 
-pub record IsStanding (ground : GroundValue) (mz : ℕ) (search : Search) (given : Option (List ℕ)) : Type 0 where
-  pub is_ground : IsGround ground
+pub record IsStanding (premises : GroundValue) (mz : ℕ) (search : Search) (given : Option (List ℕ)) : Type 0 where
+  pub is_ground : IsGround premises
   pub some_mz : 1 ≤ mz
   pub few_mz : mz ≤ MAX_MZ
-  pub is_search : IsSearch ground search
-  pub covers : Covers ground mz search.decomps.window
-  pub token : IfSome given (IsToken ground)
-  pub rest : after_given (formulas_of_peak ground mz) given ≡ candidates_in ground mz (todo search)
+  pub is_search : IsSearch premises search
+  pub covers : Covers premises mz search.decomps.window
+  pub token : IfSome given (IsToken premises)
+  pub rest : after_given (formulas_of_peak premises mz) given ≡ candidates_in premises mz (todo search)

@@ -11,7 +11,7 @@ ghost use Rattle.std.specs.List.{list_any};
 ghost use Rattle.written_items.specs.Items.{item_eq};
 ghost use Rattle.candidates.specs.Tokens.{IsInAlphabetBox, has_only, fits};
 
-use crate::ground::Ground;
+use crate::grounds::Ground;
 use crate::search::{Search, counts_of};
 use alphabet_text::Alphabet;
 use decompose::{Counts, Decomps, Limit, ResumeFault, Window};
@@ -29,7 +29,7 @@ use written_items::Item;
 #[derive(Drop)]
 pub struct Candidates<'t> {
     alloc: Global,
-    ground: &'t Ground,
+    premises: &'t Ground,
     mz: u64,
     search: Search<'t>,
     /// The count list given last, once one was given.
@@ -44,23 +44,23 @@ impl<'t> Model for Candidates<'t> {
 
     ghost Value = { CandidateEnumeration };
 
-    ghost view = { λ c. record { ground = c.ground.now; mz = c.mz; given = given_if c.has_given c.last } };
+    ghost view = { λ c. record { premises = c.premises.now; mz = c.mz; given = given_if c.has_given c.last } };
 
-    ghost invariant = { λ c. (length c.last ≡ length c.ground.now.alphabet)
-        × IsStanding c.ground.now c.mz c.search (given_if c.has_given c.last) };
+    ghost invariant = { λ c. (length c.last ≡ length c.premises.now.alphabet)
+        × IsStanding c.premises.now c.mz c.search (given_if c.has_given c.last) };
 }
 
 /// The window of a peak where no mass is within tolerance: no candidate has this mass.
 const NO_WINDOW: Window = Window { lo: 1, hi: 1 };
 
 /// A window in which each candidate of a peak has its mass.
-fn peak_window(ground: &Ground, mz: u64) -> Window
+fn peak_window(premises: &Ground, mz: u64) -> Window
     requires some_mz { 1 ≤ mz }
     requires few_mz { mz ≤ MAX_MZ }
     ensures window { IsWindow result }
-    ensures covers { Covers ground.now mz result }
+    ensures covers { Covers premises.now mz result }
 {
-    match window_of(mz, ground.tolerance(), ground.charged()) {
+    match window_of(mz, premises.tolerance(), premises.charged()) {
         Some(window) => window,
         None => NO_WINDOW,
     }
@@ -68,17 +68,17 @@ fn peak_window(ground: &Ground, mz: u64) -> Window
 
 impl<'t> Candidates<'t> {
     /// The candidates of a peak from their start. The m/z is above 0 and at most 20,000 Da, in 10^-12 Da.
-    pub fn start(alloc: Global, ground: &'t Ground, mz: u64) -> Result<Candidates<'t>, AllocError>
+    pub fn start(alloc: Global, premises: &'t Ground, mz: u64) -> Result<Candidates<'t>, AllocError>
         requires some_mz { 1 ≤ mz }
         requires few_mz { mz ≤ MAX_MZ }
-        ensures start { IfOk result (λ c. c ≡ record { ground = ground.now; mz = mz; given = None }) }
-        ensures all_left { IfOk result (λ c. counts_left c ≡ formulas_of_peak ground.now mz) }
+        ensures start { IfOk result (λ c. c ≡ record { premises = premises.now; mz = mz; given = None }) }
+        ensures all_left { IfOk result (λ c. counts_left c ≡ formulas_of_peak premises.now mz) }
     {
-        let alphabet = ground.alphabet();
-        let window = peak_window(ground, mz);
+        let alphabet = premises.alphabet();
+        let window = peak_window(premises, mz);
         let counts = Counts::zero(alloc, alphabet.items().len())?;
         let last = Counts::zero(alloc, alphabet.items().len())?;
-        let decomps = Decomps::start(alloc, ground.tables(), alphabet.limits(), window)?;
+        let decomps = Decomps::start(alloc, premises.tables(), alphabet.limits(), window)?;
         let search = Search {
             decomps,
             counts,
@@ -86,7 +86,7 @@ impl<'t> Candidates<'t> {
         };
         Ok(Candidates {
             alloc,
-            ground,
+            premises,
             mz,
             search,
             last,
@@ -100,31 +100,31 @@ impl<'t> Candidates<'t> {
     /// outside its limits.
     pub fn resume(
         alloc: Global,
-        ground: &'t Ground,
+        premises: &'t Ground,
         mz: u64,
         after: &Formula,
     ) -> Result<Candidates<'t>, ResumeFault>
         requires some_mz { 1 ≤ mz }
         requires few_mz { mz ≤ MAX_MZ }
         ensures resumed { IfOk result (λ c. c ≡ record {
-          ground = ground.now;
+          premises = premises.now;
           mz = mz;
-          given = Some (counts_in ground.now.alphabet after.now);
+          given = Some (counts_in premises.now.alphabet after.now);
         }) }
         ensures rest_left { IfOk result (λ c. counts_left c
-            ≡ lists_after (formulas_of_peak ground.now mz) (counts_in ground.now.alphabet after.now)) }
-        ensures in_box { OnOk result (IsInAlphabetBox ground.now.alphabet after.now) }
+            ≡ lists_after (formulas_of_peak premises.now mz) (counts_in premises.now.alphabet after.now)) }
+        ensures in_box { OnOk result (IsInAlphabetBox premises.now.alphabet after.now) }
         ensures not_in_box { IsErrOf result ResumeFault.NotInBox
-            ↔ (¬ IsInAlphabetBox ground.now.alphabet after.now) }
+            ↔ (¬ IsInAlphabetBox premises.now.alphabet after.now) }
     {
-        let alphabet = ground.alphabet();
+        let alphabet = premises.alphabet();
         if !is_in_box(alphabet, after) {
             return Err(ResumeFault::NotInBox);
         }
         let last = counts_in(alloc, alphabet.items(), after)?;
         let counts = Counts::zero(alloc, alphabet.items().len())?;
-        let window = peak_window(ground, mz);
-        let decomps = Decomps::resume(alloc, ground.tables(), alphabet.limits(), window, &last)?;
+        let window = peak_window(premises, mz);
+        let decomps = Decomps::resume(alloc, premises.tables(), alphabet.limits(), window, &last)?;
         let search = Search {
             decomps,
             counts,
@@ -132,7 +132,7 @@ impl<'t> Candidates<'t> {
         };
         Ok(Candidates {
             alloc,
-            ground,
+            premises,
             mz,
             search,
             last,
@@ -148,9 +148,9 @@ impl<'t> Candidates<'t> {
         ensures at_end { IfOk result (λ o. o ≡ None → self.new ≡ self.old) }
         ensures refused { OnErr result (self.new ≡ self.old) }
         ensures peak { IfOk result (λ o. self.new.mz ≡ self.old.mz) }
-        ensures ground { IfOk result (λ o. self.new.ground ≡ self.old.ground) }
+        ensures premises { IfOk result (λ o. self.new.premises ≡ self.old.premises) }
     {
-        let found = self.search.find(self.alloc, self.ground, self.mz, steps)?;
+        let found = self.search.find(self.alloc, self.premises, self.mz, steps)?;
         if found.is_some() {
             mem::swap(&mut self.search.counts, &mut self.last);
             self.has_given = true;
@@ -161,12 +161,12 @@ impl<'t> Candidates<'t> {
     /// The formula of the count list given last, with which `resume` goes on. None where none was given since `start`.
     pub fn token(&self) -> Result<Option<Formula>, AllocError>
         ensures { IfOk result (λ token.
-            token ≡ option_map (formula_at self.now.ground.alphabet) self.now.given) }
+            token ≡ option_map (formula_at self.now.premises.alphabet) self.now.given) }
     {
         if !self.has_given {
             return Ok(None);
         }
-        let parts = counts_of(self.alloc, self.ground.alphabet(), self.last.counts())?;
+        let parts = counts_of(self.alloc, self.premises.alphabet(), self.last.counts())?;
         Formula::of(self.alloc, &parts)
     }
 }

@@ -11,12 +11,12 @@
 #![tactic(auto)]
 
 mod candidates;
-mod ground;
+mod grounds;
 mod search;
 
 pub use candidates::Candidates;
 pub use decompose::ResumeFault;
-pub use ground::Ground;
+pub use grounds::Ground;
 
 #[cfg(test)]
 mod tests;

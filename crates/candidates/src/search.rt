@@ -9,7 +9,7 @@ ghost use Rattle.adducts.specs.Ions.{ion_mass};
 ghost use Rattle.candidates.specs.PeakFormulas.{candidate_of, counts_of, is_ion_within, meets_rules};
 ghost use Rattle.candidates.specs.Searches.{IsSearch, Takes, Finds, passes, todo};
 
-use crate::ground::Ground;
+use crate::grounds::Ground;
 use adducts::ion_mass;
 use alphabet_text::Alphabet;
 use decompose::{Counts, Decomps};
@@ -48,17 +48,17 @@ impl<'t> Search<'t> {
     pub fn find<L: Ledger>(
         &mut self,
         alloc: Global,
-        ground: &Ground,
+        premises: &Ground,
         mz: u64,
         steps: &mut Steps<L>,
     ) -> Result<Option<Formula>, AllocError>
         requires some_mz { 1 ≤ mz }
         requires few_mz { mz ≤ MAX_MZ }
-        requires search { IsSearch ground.now self.old }
-        ensures { Finds ground.now mz self.old self.new result }
+        requires search { IsSearch premises.now self.old }
+        ensures { Finds premises.now mz self.old self.new result }
     {
         'lists: while self.take(steps) {
-            let found = candidate_of(alloc, ground, mz, self.counts.counts())?;
+            let found = candidate_of(alloc, premises, mz, self.counts.counts())?;
             self.is_pending = false;
             if found.is_some() {
                 return Ok(found);
@@ -71,19 +71,19 @@ impl<'t> Search<'t> {
 /// The candidate of a count list.
 fn candidate_of(
     alloc: Global,
-    ground: &Ground,
+    premises: &Ground,
     mz: u64,
     counts: &[u32],
 ) -> Result<Option<Formula>, AllocError>
     requires some_mz { 1 ≤ mz }
     requires few_mz { mz ≤ MAX_MZ }
-    ensures { IfOk result (λ o. o ≡ candidate_of ground.now mz counts.now) }
+    ensures { IfOk result (λ o. o ≡ candidate_of premises.now mz counts.now) }
 {
-    let parts = counts_of(alloc, ground.alphabet(), counts)?;
+    let parts = counts_of(alloc, premises.alphabet(), counts)?;
     let Some(formula) = Formula::of(alloc, &parts)? else {
         return Ok(None);
     };
-    if passes(ground, mz, &formula) {
+    if passes(premises, mz, &formula) {
         Ok(Some(formula))
     } else {
         Ok(None)
@@ -107,35 +107,35 @@ pub(crate) fn counts_of(
 }
 
 /// Whether a formula's ion is defined and within tolerance of an m/z, and the formula meets the rules.
-fn passes(ground: &Ground, mz: u64, formula: &Formula) -> bool
+fn passes(premises: &Ground, mz: u64, formula: &Formula) -> bool
     requires some_mz { 1 ≤ mz }
     requires few_mz { mz ≤ MAX_MZ }
-    requires known { HasItems ground.now.table formula.now }
-    ensures { result ≡ passes ground.now mz formula.now }
+    requires known { HasItems premises.now.table formula.now }
+    ensures { result ≡ passes premises.now mz formula.now }
 {
-    is_ion_within(ground, mz, formula) && meets_rules(ground, formula)
+    is_ion_within(premises, mz, formula) && meets_rules(premises, formula)
 }
 
 /// Whether a formula's ion is defined and within tolerance of an m/z.
-fn is_ion_within(ground: &Ground, mz: u64, formula: &Formula) -> bool
+fn is_ion_within(premises: &Ground, mz: u64, formula: &Formula) -> bool
     requires some_mz { 1 ≤ mz }
     requires few_mz { mz ≤ MAX_MZ }
-    requires known { HasItems ground.now.table formula.now }
-    ensures { result ≡ is_ion_within ground.now mz (ion_mass ground.now.table ground.now.adduct formula.now) }
+    requires known { HasItems premises.now.table formula.now }
+    ensures { result ≡ is_ion_within premises.now mz (ion_mass premises.now.table premises.now.adduct formula.now) }
 {
-    let adduct = ground.adduct();
-    match ion_mass(ground.table(), formula, adduct) {
+    let adduct = premises.adduct();
+    match ion_mass(premises.table(), formula, adduct) {
         None => false,
-        Some(mass) => within(mass, mz, ground.tolerance(), adduct.divisor()),
+        Some(mass) => within(mass, mz, premises.tolerance(), adduct.divisor()),
     }
 }
 
 /// Whether a formula meets the rules.
-fn meets_rules(ground: &Ground, formula: &Formula) -> bool
-    requires known { HasItems ground.now.table formula.now }
-    ensures { result ≡ meets_rules ground.now formula.now }
+fn meets_rules(premises: &Ground, formula: &Formula) -> bool
+    requires known { HasItems premises.now.table formula.now }
+    ensures { result ≡ meets_rules premises.now formula.now }
 {
-    match ground.rules().holds(ground.table(), formula) {
+    match premises.rules().holds(premises.table(), formula) {
         Verdict::Pass => true,
         Verdict::Fails { .. } => false,
     }

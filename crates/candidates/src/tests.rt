@@ -54,7 +54,7 @@ fn expect_with<L: Ledger>(
     rt: &impl Abort,
     alloc: Global,
     case: &Case,
-    ground: &Ground,
+    premises: &Ground,
     blank: Blank,
 ) -> Result<(), Fail>
     requires mz { 1 ≤ case.now.mz }
@@ -64,7 +64,7 @@ fn expect_with<L: Ledger>(
     requires some { 0 < blank.parts }
 {
     let mut steps = Steps::<L>::new(blank);
-    let mut candidates = Candidates::start(alloc, ground, case.mz)?;
+    let mut candidates = Candidates::start(alloc, premises, case.mz)?;
     assert!(rt; candidates.token()?.is_none());
     for (place, text) in case.formulas.iter().enumerate() {
         let formula = candidates.next(&mut steps)?.ok_or("a candidate")?;
@@ -72,7 +72,7 @@ fn expect_with<L: Ledger>(
         assert_eq!(rt; printed.as_slice(), *text);
         let token: Formula = candidates.token()?.ok_or("a token")?;
         assert_eq!(rt; token.items(), formula.items());
-        let mut rest = Candidates::resume(alloc, ground, case.mz, &token)?;
+        let mut rest = Candidates::resume(alloc, premises, case.mz, &token)?;
         let told: Formula = rest.token()?.ok_or("a token")?;
         assert_eq!(rt; told.items(), formula.items());
         let next = rest.next(&mut steps)?;
@@ -87,8 +87,8 @@ fn expect_formulas(rt: &impl Abort, alloc: Global, case: &Case) -> Result<(), Fa
     requires mz { 1 ≤ case.now.mz }
     requires few_mz { case.now.mz ≤ MAX_MZ }
 {
-    let ground = ground_of(alloc, case)?;
-    expect_with::<Brand>(rt, alloc, case, &ground, Blank::new(1))
+    let premises = ground_of(alloc, case)?;
+    expect_with::<Brand>(rt, alloc, case, &premises, Blank::new(1))
 }
 
 #[test]
@@ -162,7 +162,7 @@ fn a_formula_of_the_box_is_a_token_and_no_other(rt: HostRuntime) -> Result<(), F
         da: 10_000_000,
         formulas: &[],
     };
-    let ground = ground_of(alloc, &case)?;
+    let premises = ground_of(alloc, &case)?;
     let rows: &[(&[u8], bool)] = &[
         (b"A", true),
         (b"A10000", true),
@@ -171,8 +171,8 @@ fn a_formula_of_the_box_is_a_token_and_no_other(rt: HostRuntime) -> Result<(), F
         (b"AH", false),
     ];
     for (text, is_token) in rows {
-        let formula = read_formula(alloc, ground.table(), text)?;
-        let resumed = Candidates::resume(alloc, &ground, 10_000_000_000_000, &formula);
+        let formula = read_formula(alloc, premises.table(), text)?;
+        let resumed = Candidates::resume(alloc, &premises, 10_000_000_000_000, &formula);
         assert_eq!(rt; resumed.is_ok(), *is_token);
     }
     Ok(())

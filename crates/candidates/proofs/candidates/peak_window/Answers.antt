@@ -5,16 +5,16 @@ use Rattle.candidates.proofs.candidates.peak_window.Goals as goal
 
 pub returns-in-Some-clause-covers : goal.returns-in-Some-clause-covers
 returns-in-Some-clause-covers c =
-    let ground = c.args.ground.now in
-    window-covers ground c.args.mz c.in-Some.window c.charged.ensures.ground
-    (subst (λ ion. IsWindowOf c.args.mz ground.tolerance ion c.in-Some.window) c.charged.ensures.charged
+    let premises = c.args.premises.now in
+    window-covers premises c.args.mz c.in-Some.window c.charged.ensures.premises
+    (subst (λ ion. IsWindowOf c.args.mz premises.tolerance ion c.in-Some.window) c.charged.ensures.charged
     (subst (λ t. IsWindowOf c.args.mz t c.charged.result c.in-Some.window) c.tolerance.ensures.tolerance
     c.in-Some.ensures.exact))
 
 pub returns-in-None-clause-covers : goal.returns-in-None-clause-covers
 returns-in-None-clause-covers c =
-    let ground = c.args.ground.now in
-    none-covers ground c.args.mz (record { lo = 1; hi = 1 }) c.charged.ensures.ground
-    (subst (λ ion. NoMassIsWithin c.args.mz ground.tolerance ion) c.charged.ensures.charged
+    let premises = c.args.premises.now in
+    none-covers premises c.args.mz (record { lo = 1; hi = 1 }) c.charged.ensures.premises
+    (subst (λ ion. NoMassIsWithin c.args.mz premises.tolerance ion) c.charged.ensures.charged
     (subst (λ t. NoMassIsWithin c.args.mz t c.charged.result) c.tolerance.ensures.tolerance
     (c.in-None.ensures.none.0 refl)))

@@ -13,9 +13,9 @@ pub passes-requires-clause-known : goal.passes-requires-clause-known
 passes-requires-clause-known c =
     let is : IsSumOf c.deref.result.now c.in-Some.formula =
     subst (λ o. IfSome o (IsSumOf c.deref.result.now)) c.in-Some.is c.in_ok-formula.ensures.counts in
-    HasItems-sum c.args.ground.now.table c.deref.result.now c.in-Some.formula is.formula is.counts
-    (subst (HasItems c.args.ground.now.table)
+    HasItems-sum c.args.premises.now.table c.deref.result.now c.in-Some.formula is.formula is.counts
+    (subst (HasItems c.args.premises.now.table)
     (sym (c.deref.ensures.value ∙ c.in_ok-parts.ensures))
-    (HasItems-counts c.args.ground.now.table c.alphabet.result.now c.args.counts.now
-    (subst (All (IsEntryOf c.args.ground.now.table)) (sym c.alphabet.ensures.alphabet)
-    c.alphabet.ensures.ground.entries)))
+    (HasItems-counts c.args.premises.now.table c.alphabet.result.now c.args.counts.now
+    (subst (All (IsEntryOf c.args.premises.now.table)) (sym c.alphabet.ensures.alphabet)
+    c.alphabet.ensures.premises.entries)))

@@ -12,14 +12,14 @@ start-requires-clause-limits c =
 
 pub invariant_of-result : goal.invariant_of-result
 invariant_of-result c =
-    let ground = c.args.ground.now in (
-      count-entries ground.alphabet c.alphabet-alphabet.result.now c.items-2.result.now c.in_ok-last.last
+    let premises = c.args.premises.now in (
+      count-entries premises.alphabet c.alphabet-alphabet.result.now c.items-2.result.now c.in_ok-last.last
           c.alphabet-alphabet.ensures.alphabet c.items-2.ensures.items c.in_ok-last.ensures,
-      standing-made ground c.args.mz c.in_ok-decomps.decomps c.in_ok-counts.counts c.tables.result.now
-          c.limits.result.now c.peak_window-window.result None c.alphabet-alphabet.ensures.ground c.requires.some_mz
+      standing-made premises c.args.mz c.in_ok-decomps.decomps c.in_ok-counts.counts c.tables.result.now
+          c.limits.result.now c.peak_window-window.result None c.alphabet-alphabet.ensures.premises c.requires.some_mz
           c.requires.few_mz c.in_ok-decomps.ensures.start c.tables.ensures.tables
           (c.limits.ensures.limits ∙ ap limits_of c.alphabet-alphabet.ensures.alphabet)
           c.peak_window-window.ensures.covers
-          (count-entries ground.alphabet c.alphabet-alphabet.result.now c.items.result.now c.in_ok-counts.counts
+          (count-entries premises.alphabet c.alphabet-alphabet.result.now c.items.result.now c.in_ok-counts.counts
           c.alphabet-alphabet.ensures.alphabet c.items.ensures.items c.in_ok-counts.ensures) tt,
     )

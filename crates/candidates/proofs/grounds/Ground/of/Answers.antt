@@ -1,7 +1,7 @@
 use Rattle.std.proofs.Common.{◌≡◌, ◌≤◌, ◌<◌, sym, ap, subst, ◌∙◌, arith, Err}
 use Rattle.decompose.specs.Masses.{AreMasses, base_of}
 use Rattle.candidates.proofs.AlphabetMasses.{are_masses, base_of-alphabet}
-use Rattle.candidates.proofs.ground.Ground.of.Goals as goal
+use Rattle.candidates.proofs.grounds.Ground.of.Goals as goal
 
 pub of-requires : goal.of-requires
 of-requires c = subst AreMasses (sym c.masses.ensures.masses) (are_masses c.args.alphabet c.masses.ensures.alphabet)

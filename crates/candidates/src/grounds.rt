@@ -77,7 +77,7 @@ impl Ground {
         requires added_known { HasItems table adduct.added }
         requires lost_known { HasItems table adduct.lost }
         requires tolerance { IsTolerance tolerance }
-        ensures { IfOk result (λ ground. ground ≡ record {
+        ensures { IfOk result (λ premises. premises ≡ record {
           table = table;
           alphabet = alphabet;
           adduct = adduct;
@@ -105,7 +105,7 @@ impl Ground {
     /// The table.
     pub fn table(&self) -> &Table
         ensures table { result.now ≡ self.now.table }
-        ensures ground { IsGround self.now }
+        ensures premises { IsGround self.now }
     {
         &self.table
     }
@@ -113,7 +113,7 @@ impl Ground {
     /// The alphabet.
     pub fn alphabet(&self) -> &Alphabet
         ensures alphabet { result.now ≡ self.now.alphabet }
-        ensures ground { IsGround self.now }
+        ensures premises { IsGround self.now }
     {
         &self.alphabet
     }
@@ -121,7 +121,7 @@ impl Ground {
     /// The adduct.
     pub fn adduct(&self) -> &Adduct
         ensures adduct { result.now ≡ self.now.adduct }
-        ensures ground { IsGround self.now }
+        ensures premises { IsGround self.now }
     {
         &self.adduct
     }
@@ -129,7 +129,7 @@ impl Ground {
     /// The tolerance.
     pub fn tolerance(&self) -> Tolerance
         ensures tolerance { result ≡ self.now.tolerance }
-        ensures ground { IsGround self.now }
+        ensures premises { IsGround self.now }
     {
         self.tolerance
     }
@@ -137,7 +137,7 @@ impl Ground {
     /// The rules.
     pub fn rules(&self) -> &Rules
         ensures rules { result.now ≡ self.now.rules }
-        ensures ground { IsGround self.now }
+        ensures premises { IsGround self.now }
     {
         &self.rules
     }
@@ -145,7 +145,7 @@ impl Ground {
     /// The masses of the alphabet as a search takes them.
     pub(crate) fn tables(&self) -> &Tables
         ensures tables { result.now ≡ map (λ e. e.mass) self.now.alphabet }
-        ensures ground { IsGround self.now }
+        ensures premises { IsGround self.now }
     {
         &self.tables
     }
@@ -158,7 +158,7 @@ impl Ground {
           shift = shift_of self.now.table self.now.adduct;
         } }
         ensures in_range { IsCharged result }
-        ensures ground { IsGround self.now }
+        ensures premises { IsGround self.now }
     {
         self.charged
     }
