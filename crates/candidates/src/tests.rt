@@ -49,6 +49,32 @@ fn ground_of(alloc: Global, case: &Case) -> Result<Ground, Fail> {
     Ok(Ground::of(alloc, table, alphabet, adduct, tolerance, rules)?)
 }
 
+/// The formula that must be there, with its printed text.
+fn expect_formula(rt: &impl Abort, found: Option<Formula>, text: &[u8]) -> Result<Formula, Fail> {
+    let formula = found.ok_or("a formula")?;
+    let printed = formula.print()?;
+    assert_eq!(rt; printed.as_slice(), text);
+    Ok(formula)
+}
+
+/// Whether no candidate comes after a token. It is the token of what goes on after it, too.
+fn is_last<L: Ledger>(
+    rt: &impl Abort,
+    alloc: Global,
+    premises: &Ground,
+    mz: u64,
+    token: &Formula,
+    steps: &mut Steps<L>,
+) -> Result<bool, Fail>
+    requires mz { 1 ≤ mz }
+    requires few_mz { mz ≤ MAX_MZ }
+{
+    let mut rest = Candidates::resume(alloc, premises, mz, token)?;
+    let again = rest.token()?.ok_or("a token")?;
+    assert_eq!(rt; again.items(), token.items());
+    Ok(rest.next(steps)?.is_none())
+}
+
 /// Takes all candidates of a case, with the token after each, and compares their printed texts.
 fn expect_with<L: Ledger>(
     rt: &impl Abort,
@@ -66,18 +92,14 @@ fn expect_with<L: Ledger>(
     let mut steps = Steps::<L>::new(blank);
     let mut candidates = Candidates::start(alloc, premises, case.mz)?;
     assert!(rt; candidates.token()?.is_none());
-    for (place, text) in case.formulas.iter().enumerate() {
-        let formula = candidates.next(&mut steps)?.ok_or("a candidate")?;
-        let printed = formula.print()?;
-        assert_eq!(rt; printed.as_slice(), *text);
-        let token: Formula = candidates.token()?.ok_or("a token")?;
-        assert_eq!(rt; token.items(), formula.items());
-        let mut rest = Candidates::resume(alloc, premises, case.mz, &token)?;
-        let told: Formula = rest.token()?.ok_or("a token")?;
-        assert_eq!(rt; told.items(), formula.items());
-        let next = rest.next(&mut steps)?;
-        assert_eq!(rt; next.is_some(), place < case.formulas.len() - 1);
+    let mut was_last = case.formulas.is_empty();
+    for text in case.formulas {
+        assert!(rt; !was_last);
+        expect_formula(rt, candidates.next(&mut steps)?, text)?;
+        let token = expect_formula(rt, candidates.token()?, text)?;
+        was_last = is_last(rt, alloc, premises, case.mz, &token, &mut steps)?;
     }
+    assert!(rt; was_last);
     assert!(rt; candidates.next(&mut steps)?.is_none());
     assert!(rt; candidates.next(&mut steps)?.is_none());
     Ok(())
