@@ -7,20 +7,56 @@ use std::process::Abort;
 use std::test::Fail;
 
 /// Two isotopes of equal weight, and three; one of an element whose second isotope doesn't occur.
-const EQUAL: &[u8] =
-    b"symbol,number,mass,abundance,valence\ne-,0,0.000548579909,0,0\nX,10,10,0.5,1\nX,11,11,0.5,1\nY,20,20,0.3,2\nY,21,21,0.3,2\nY,22,22,0.3,2\nV,30,30,0.25,1\nV,31,31,0,1\nV,32,32,0.75,1\n";
+const EQUAL: &[u8] = b"symbol,number,mass,abundance,valence
+e-,0,0.000548579909,0,0
+X,10,10,0.5,1
+X,11,11,0.5,1
+Y,20,20,0.3,2
+Y,21,21,0.3,2
+Y,22,22,0.3,2
+V,30,30,0.25,1
+V,31,31,0,1
+V,32,32,0.75,1
+";
 
 /// Sixteen isotopes of equal weight.
-const SIXTEEN: &[u8] =
-    b"symbol,number,mass,abundance,valence\ne-,0,0.000548579909,0,0\nZ,30,30,0.05,1\nZ,31,31,0.05,1\nZ,32,32,0.05,1\nZ,33,33,0.05,1\nZ,34,34,0.05,1\nZ,35,35,0.05,1\nZ,36,36,0.05,1\nZ,37,37,0.05,1\nZ,38,38,0.05,1\nZ,39,39,0.05,1\nZ,40,40,0.05,1\nZ,41,41,0.05,1\nZ,42,42,0.05,1\nZ,43,43,0.05,1\nZ,44,44,0.05,1\nZ,45,45,0.05,1\n";
+const SIXTEEN: &[u8] = b"symbol,number,mass,abundance,valence
+e-,0,0.000548579909,0,0
+Z,30,30,0.05,1
+Z,31,31,0.05,1
+Z,32,32,0.05,1
+Z,33,33,0.05,1
+Z,34,34,0.05,1
+Z,35,35,0.05,1
+Z,36,36,0.05,1
+Z,37,37,0.05,1
+Z,38,38,0.05,1
+Z,39,39,0.05,1
+Z,40,40,0.05,1
+Z,41,41,0.05,1
+Z,42,42,0.05,1
+Z,43,43,0.05,1
+Z,44,44,0.05,1
+Z,45,45,0.05,1
+";
 
 /// Six isotopes of equal weight.
-const SIX: &[u8] =
-    b"symbol,number,mass,abundance,valence\ne-,0,0.000548579909,0,0\nV,60,60,0.1,1\nV,61,61,0.1,1\nV,62,62,0.1,1\nV,63,63,0.1,1\nV,64,64,0.1,1\nV,65,65,0.1,1\n";
+const SIX: &[u8] = b"symbol,number,mass,abundance,valence
+e-,0,0.000548579909,0,0
+V,60,60,0.1,1
+V,61,61,0.1,1
+V,62,62,0.1,1
+V,63,63,0.1,1
+V,64,64,0.1,1
+V,65,65,0.1,1
+";
 
 /// Abundances of 12 decimals.
-const FINE: &[u8] =
-    b"symbol,number,mass,abundance12,valence\ne-,0,0.000548579909,0,0\nQ,1,1,0.000000000001,1\nQ,2,2,0.999999999999,1\n";
+const FINE: &[u8] = b"symbol,number,mass,abundance12,valence
+e-,0,0.000548579909,0,0
+Q,1,1,0.000000000001,1
+Q,2,2,0.999999999999,1
+";
 
 /// The same with the header of version 1.
 const FINE_OF_VERSION_1: &[u8] =
@@ -86,7 +122,13 @@ fn covers_of_formulas(rt: HostRuntime) -> Result<(), Fail> {
             coverage: "0.5",
             table: EQUAL,
             status: 0,
-            out: b"envelope X2\ncoverage 500000000000000000\nsize 1\nbound 1\nthreshold 250000000000000000\nisotopologue [10X][11X] 21.000000000000 500000000000000000 500000000000000000\n",
+            out: b"envelope X2
+coverage 500000000000000000
+size 1
+bound 1
+threshold 250000000000000000
+isotopologue [10X][11X] 21.000000000000 500000000000000000 500000000000000000
+",
             note: b"",
         },
         // The outer two tie, and stand in lexicographic order.
@@ -95,7 +137,14 @@ fn covers_of_formulas(rt: HostRuntime) -> Result<(), Fail> {
             coverage: "0.75",
             table: EQUAL,
             status: 0,
-            out: b"envelope X2\ncoverage 750000000000000000\nsize 2\nbound 2\nthreshold 125000000000000000\nisotopologue [10X][11X] 21.000000000000 500000000000000000 500000000000000000\nisotopologue [11X]2 22.000000000000 250000000000000000 250000000000000000\n",
+            out: b"envelope X2
+coverage 750000000000000000
+size 2
+bound 2
+threshold 125000000000000000
+isotopologue [10X][11X] 21.000000000000 500000000000000000 500000000000000000
+isotopologue [11X]2 22.000000000000 250000000000000000 250000000000000000
+",
             note: b"",
         },
         // The greatest coverage, and the least.
@@ -104,7 +153,15 @@ fn covers_of_formulas(rt: HostRuntime) -> Result<(), Fail> {
             coverage: "0.999999",
             table: EQUAL,
             status: 0,
-            out: b"envelope X2\ncoverage 999999000000000000\nsize 3\nbound 3\nthreshold 125000000000000000\nisotopologue [10X][11X] 21.000000000000 500000000000000000 500000000000000000\nisotopologue [11X]2 22.000000000000 250000000000000000 250000000000000000\nisotopologue [10X]2 20.000000000000 250000000000000000 250000000000000000\n",
+            out: b"envelope X2
+coverage 999999000000000000
+size 3
+bound 3
+threshold 125000000000000000
+isotopologue [10X][11X] 21.000000000000 500000000000000000 500000000000000000
+isotopologue [11X]2 22.000000000000 250000000000000000 250000000000000000
+isotopologue [10X]2 20.000000000000 250000000000000000 250000000000000000
+",
             note: b"",
         },
         Case {
@@ -112,7 +169,13 @@ fn covers_of_formulas(rt: HostRuntime) -> Result<(), Fail> {
             coverage: "0.000000000000000001",
             table: EQUAL,
             status: 0,
-            out: b"envelope X2\ncoverage 1\nsize 1\nbound 1\nthreshold 250000000000000000\nisotopologue [10X][11X] 21.000000000000 500000000000000000 500000000000000000\n",
+            out: b"envelope X2
+coverage 1
+size 1
+bound 1
+threshold 250000000000000000
+isotopologue [10X][11X] 21.000000000000 500000000000000000 500000000000000000
+",
             note: b"",
         },
         // The lower bounds of two thirds just miss the coverage.
@@ -121,7 +184,15 @@ fn covers_of_formulas(rt: HostRuntime) -> Result<(), Fail> {
             coverage: "0.666666666666666667",
             table: EQUAL,
             status: 0,
-            out: b"envelope Y\ncoverage 666666666666666667\nsize 3\nbound 2\nthreshold 166666666666666667\nisotopologue [22Y] 22.000000000000 333333333333333333 333333333333333334\nisotopologue [21Y] 21.000000000000 333333333333333333 333333333333333334\nisotopologue [20Y] 20.000000000000 333333333333333333 333333333333333334\n",
+            out: b"envelope Y
+coverage 666666666666666667
+size 3
+bound 2
+threshold 166666666666666667
+isotopologue [22Y] 22.000000000000 333333333333333333 333333333333333334
+isotopologue [21Y] 21.000000000000 333333333333333333 333333333333333334
+isotopologue [20Y] 20.000000000000 333333333333333333 333333333333333334
+",
             note: b"",
         },
         // Two elements.
@@ -130,7 +201,14 @@ fn covers_of_formulas(rt: HostRuntime) -> Result<(), Fail> {
             coverage: "0.99",
             table: ELEMENTS,
             status: 0,
-            out: b"envelope CO2\ncoverage 990000000000000000\nsize 2\nbound 2\nthreshold 7691389404043515\nisotopologue [12C][16O]2 43.989829239140 984497843717570000 984497843717570000\nisotopologue [13C][16O]2 44.993184074210 10648061182430000 10648061182430000\n",
+            out: b"envelope CO2
+coverage 990000000000000000
+size 2
+bound 2
+threshold 7691389404043515
+isotopologue [12C][16O]2 43.989829239140 984497843717570000 984497843717570000
+isotopologue [13C][16O]2 44.993184074210 10648061182430000 10648061182430000
+",
             note: b"",
         },
         // Items that repeat are added up, and printed in Hill order.
@@ -139,7 +217,13 @@ fn covers_of_formulas(rt: HostRuntime) -> Result<(), Fail> {
             coverage: "0.9",
             table: ELEMENTS,
             status: 0,
-            out: b"envelope CO2\ncoverage 900000000000000000\nsize 1\nbound 1\nthreshold 492248921858785000\nisotopologue [12C][16O]2 43.989829239140 984497843717570000 984497843717570000\n",
+            out: b"envelope CO2
+coverage 900000000000000000
+size 1
+bound 1
+threshold 492248921858785000
+isotopologue [12C][16O]2 43.989829239140 984497843717570000 984497843717570000
+",
             note: b"",
         },
         // Labelled atoms are in the formula and the mass, and not in the isotopologue's text.
@@ -148,7 +232,13 @@ fn covers_of_formulas(rt: HostRuntime) -> Result<(), Fail> {
             coverage: "0.99",
             table: ELEMENTS,
             status: 0,
-            out: b"envelope [13C]6O\ncoverage 990000000000000000\nsize 1\nbound 1\nthreshold 498785000000000000\nisotopologue [16O] 94.015043629990 997570000000000000 997570000000000000\n",
+            out: b"envelope [13C]6O
+coverage 990000000000000000
+size 1
+bound 1
+threshold 498785000000000000
+isotopologue [16O] 94.015043629990 997570000000000000 997570000000000000
+",
             note: b"",
         },
         Case {
@@ -156,7 +246,13 @@ fn covers_of_formulas(rt: HostRuntime) -> Result<(), Fail> {
             coverage: "0.5",
             table: ELEMENTS,
             status: 0,
-            out: b"envelope [13C]6\ncoverage 500000000000000000\nsize 1\nbound 1\nthreshold 500000000000000000\nisotopologue - 78.020129010420 1000000000000000000 1000000000000000000\n",
+            out: b"envelope [13C]6
+coverage 500000000000000000
+size 1
+bound 1
+threshold 500000000000000000
+isotopologue - 78.020129010420 1000000000000000000 1000000000000000000
+",
             note: b"",
         },
         // Size and bound differ: three of six equal isotopes have the half, but not by their lower bounds.
@@ -165,7 +261,16 @@ fn covers_of_formulas(rt: HostRuntime) -> Result<(), Fail> {
             coverage: "0.5",
             table: SIX,
             status: 0,
-            out: b"envelope V\ncoverage 500000000000000000\nsize 4\nbound 3\nthreshold 83333333333333333\nisotopologue [65V] 65.000000000000 166666666666666666 166666666666666667\nisotopologue [64V] 64.000000000000 166666666666666666 166666666666666667\nisotopologue [63V] 63.000000000000 166666666666666666 166666666666666667\nisotopologue [62V] 62.000000000000 166666666666666666 166666666666666667\n",
+            out: b"envelope V
+coverage 500000000000000000
+size 4
+bound 3
+threshold 83333333333333333
+isotopologue [65V] 65.000000000000 166666666666666666 166666666666666667
+isotopologue [64V] 64.000000000000 166666666666666666 166666666666666667
+isotopologue [63V] 63.000000000000 166666666666666666 166666666666666667
+isotopologue [62V] 62.000000000000 166666666666666666 166666666666666667
+",
             note: b"",
         },
         // A table of version 2.
@@ -174,7 +279,13 @@ fn covers_of_formulas(rt: HostRuntime) -> Result<(), Fail> {
             coverage: "0.5",
             table: FINE,
             status: 0,
-            out: b"envelope Q\ncoverage 500000000000000000\nsize 1\nbound 1\nthreshold 499999999999500000\nisotopologue [2Q] 2.000000000000 999999999999000000 999999999999000000\n",
+            out: b"envelope Q
+coverage 500000000000000000
+size 1
+bound 1
+threshold 499999999999500000
+isotopologue [2Q] 2.000000000000 999999999999000000 999999999999000000
+",
             note: b"",
         },
         // The isotope of weight 0 takes no part.
@@ -183,7 +294,14 @@ fn covers_of_formulas(rt: HostRuntime) -> Result<(), Fail> {
             coverage: "0.9",
             table: EQUAL,
             status: 0,
-            out: b"envelope V2\ncoverage 900000000000000000\nsize 2\nbound 2\nthreshold 281250000000000000\nisotopologue [32V]2 64.000000000000 562500000000000000 562500000000000000\nisotopologue [30V][32V] 62.000000000000 375000000000000000 375000000000000000\n",
+            out: b"envelope V2
+coverage 900000000000000000
+size 2
+bound 2
+threshold 281250000000000000
+isotopologue [32V]2 64.000000000000 562500000000000000 562500000000000000
+isotopologue [30V][32V] 62.000000000000 375000000000000000 375000000000000000
+",
             note: b"",
         },
     ];
@@ -315,8 +433,14 @@ fn other_words_ask_for_no_envelope(rt: HostRuntime) -> Result<(), Fail> {
 fn each_put_and_each_fetch_of_an_envelope_may_fail(rt: HostRuntime) -> Result<(), Fail> {
     let alloc = rt.alloc();
     let words = envelope_words(alloc, "X2", "0.75")?;
-    let report =
-        b"envelope X2\ncoverage 750000000000000000\nsize 2\nbound 2\nthreshold 125000000000000000\nisotopologue [10X][11X] 21.000000000000 500000000000000000 500000000000000000\nisotopologue [11X]2 22.000000000000 250000000000000000 250000000000000000\n";
+    let report = b"envelope X2
+coverage 750000000000000000
+size 2
+bound 2
+threshold 125000000000000000
+isotopologue [10X][11X] 21.000000000000 500000000000000000 500000000000000000
+isotopologue [11X]2 22.000000000000 250000000000000000 250000000000000000
+";
     // The number of a put, how many bytes it takes, and how many were received by then.
     let cases = [
         (1, 0, 0),

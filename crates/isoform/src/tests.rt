@@ -5,14 +5,25 @@ use std::alloc::{AllocError, Global};
 use std::process::Abort;
 use std::test::Fail;
 
-pub const ELEMENTS: &[u8] =
-    b"symbol,number,mass,abundance,valence\ne-,0,0.000548579909,0,0\nH,1,1.00782503223,0.999885,1\nH,2,2.01410177812,0.000115,1\nC,12,12,0.9893,4\nC,13,13.00335483507,0.0107,4\nO,16,15.99491461957,0.99757,2\nO,17,16.99913175650,0.00038,2\nO,18,17.99915961286,0.00205,2\n";
+pub const ELEMENTS: &[u8] = b"symbol,number,mass,abundance,valence
+e-,0,0.000548579909,0,0
+H,1,1.00782503223,0.999885,1
+H,2,2.01410177812,0.000115,1
+C,12,12,0.9893,4
+C,13,13.00335483507,0.0107,4
+O,16,15.99491461957,0.99757,2
+O,17,16.99913175650,0.00038,2
+O,18,17.99915961286,0.00205,2
+";
 
 const AB: &[u8] =
     b"symbol,number,mass,abundance,valence\ne-,0,0.000548579909,0,0\nA,10,10,1,1\nB,10,10.00001,1,1\n";
 
-const AB_REPORT: &[u8] =
-    b"decompose 1\npeak 1 10.000000000000\nformula A 10.000000000000 10.000000000000 0\nformula B 10.000010000000 10.000010000000 10000000\n";
+const AB_REPORT: &[u8] = b"decompose 1
+peak 1 10.000000000000
+formula A 10.000000000000 10.000000000000 0
+formula B 10.000010000000 10.000010000000 10000000
+";
 
 /// What a run is given, and what it must answer.
 #[derive(Clone, Copy)]
@@ -92,7 +103,11 @@ fn answers_of_whole_runs(rt: HostRuntime) -> Result<(), Fail> {
             alphabet: "CHO",
             table: ELEMENTS,
             status: 0,
-            out: b"decompose 1\npeak 1 1.000000000000\nformula H 1.007825032230 1.007825032230 7825032230\nformula H2 2.015650064460 2.015650064460 1015650064460\n",
+            out: b"decompose 1
+peak 1 1.000000000000
+formula H 1.007825032230 1.007825032230 7825032230
+formula H2 2.015650064460 2.015650064460 1015650064460
+",
             note: b"",
         },
         // A formula lies exactly at the tolerance.
@@ -278,7 +293,11 @@ fn answers_of_whole_runs(rt: HostRuntime) -> Result<(), Fail> {
             alphabet: "A[10A]",
             table: AB,
             status: 0,
-            out: b"decompose 1\npeak 1 10.000000000000\nformula [10A] 10.000000000000 10.000000000000 0\nformula A 10.000000000000 10.000000000000 0\n",
+            out: b"decompose 1
+peak 1 10.000000000000
+formula [10A] 10.000000000000 10.000000000000 0
+formula A 10.000000000000 10.000000000000 0
+",
             note: b"",
         },
         Case {
@@ -421,7 +440,13 @@ fn limits_are_refused_before_anything_is_written(rt: HostRuntime) -> Result<(), 
         mass: "100",
         da: "0",
         alphabet: "ABCD",
-        table: b"symbol,number,mass,abundance,valence\ne-,0,0.0005,0,0\nA,1,0.5,1,1\nB,1,0.5,1,1\nC,1,0.5,1,1\nD,1,0.5,1,1\n",
+        table: b"symbol,number,mass,abundance,valence
+e-,0,0.0005,0,0
+A,1,0.5,1,1
+B,1,0.5,1,1
+C,1,0.5,1,1
+D,1,0.5,1,1
+",
         status: 6,
         out: b"",
         note: b"isoform: limit: candidates of peak 1\n",
