@@ -35,7 +35,11 @@ of() { decompose "$1" >out; }
 
 to_file 2>build || cat build
 expect 0 "" "a report" to_file
-if [ "$(cat out)" != "$(printf 'decompose 1\npeak 1 10.000000000000\nformula A 10.000000000000 10.000000000000 0\nformula B 10.000010000000 10.000010000000 10000000')" ]; then
+report='decompose 1
+peak 1 10.000000000000
+formula A 10.000000000000 10.000000000000 0
+formula B 10.000010000000 10.000010000000 10000000'
+if [ "$(cat out)" != "$report" ]; then
     failed=$((failed + 1))
     echo "a report: $(cat out)"
 fi
@@ -139,7 +143,11 @@ expect 8 "isoform: write fault" "a long report to a full device" long_to_full
 expect 8 "isoform: write fault" "a long report to a closed device" long_to_closed
 
 # An alphabet whose tables find no memory.
-in_little_memory() { (ulimit -v 16000; "$root/crates/isoform/out/isoform" decompose --table elements120.csv --mass 10 --da 0 --alphabet "$(printf %s C{a..t})"); }
+in_little_memory() {
+    (ulimit -v 16000
+    "$root/crates/isoform/out/isoform" decompose --table elements120.csv --mass 10 --da 0 \
+        --alphabet "$(printf %s C{a..t})")
+}
 expect 9 "isoform: memory" "too little memory" in_little_memory
 
 echo "program: $passed passed, $failed failed"
