@@ -1,7 +1,7 @@
 -- Each candidate of a peak has its mass in the window of the peak.
-use Rattle.std.proofs.Common.{◌≡◌, ℕ, ℤ, pos, ◌+ℤ◌, ◌+◌, ◌*◌, ◌<◌, ◌≤◌, Bool, true, false, cond, List, [], ◌∷◌, length, refl, sym, ap, ◌∙◌, subst, arith, inl, inr}
-use Rattle.std.specs.Prelude.{Option, Some, None, IsTrue, is_some, ◌&&◌, nat_le, option_map}
-use Rattle.std.proofs.lemmas.Bool.{false≢true, and_parts, and_from, cases_lt}
+use Rattle.std.proofs.Common.{◌≡◌, ℕ, ◌<◌, ◌≤◌, Bool, true, false, cond, List, [], ◌∷◌, length, refl, sym, ap, ◌∙◌, subst, arith, inl, inr}
+use Rattle.std.specs.Prelude.{Option, Some, None, is_some, ◌&&◌, option_map}
+use Rattle.std.proofs.lemmas.Bool.{false≢true, and_parts, cases_lt}
 use Rattle.std.proofs.lemmas.Bool.Decides.{nat_tests}
 use Rattle.decompose.specs.Masses as lists
 use Rattle.decompose.specs.Enumeration.{is_within}
@@ -20,7 +20,7 @@ use Rattle.adducts.proofs.ItemLists.{Distinct, sum-Distinct}
 use Rattle.adducts.proofs.IonCounts.{formula-is_sum, ion_of-shift}
 use Rattle.adducts.proofs.WeighedSums.{weigh-sum_of}
 use Rattle.candidates.specs.Grounds.{GroundValue, IsGround}
-use Rattle.candidates.specs.PeakFormulas.{counts_of, candidate_if, candidate_of, is_candidate, is_ion_within, meets_rules}
+use Rattle.candidates.specs.PeakFormulas.{counts_of, candidate_if, is_candidate, is_ion_within, meets_rules}
 use Rattle.candidates.specs.Searches.{Covers, masses_of}
 use Rattle.candidates.proofs.AlphabetCounts.{mass-counts, heavy-counts}
 

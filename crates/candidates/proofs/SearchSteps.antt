@@ -1,6 +1,6 @@
 -- The steps of the state for candidates.
-use Rattle.std.proofs.Common.{◌≡◌, ℕ, ◌+◌, ◌<◌, Bool, true, false, cond, List, [], ◌∷◌, ◌++◌, length, map, filter, refl, sym, ap, ◌∙◌, subst, arith}
-use Rattle.std.specs.Prelude.{Option, Some, None, Result, Ok, Err, IsTrue, not, is_some, ◌↔◌}
+use Rattle.std.proofs.Common.{◌≡◌, ℕ, ◌+◌, ◌<◌, Bool, true, false, cond, List, [], ◌∷◌, ◌++◌, length, refl, sym, ap, ◌∙◌, subst, arith}
+use Rattle.std.specs.Prelude.{Some, None, Ok, IsTrue, not, is_some, ◌↔◌}
 use Rattle.std.specs.Bool.{OnTrue, OnFalse}
 use Rattle.std.proofs.lemmas.Bool.{false≢true}
 use Rattle.decompose.specs.CountLists.{IsInBox}
@@ -8,8 +8,8 @@ use Rattle.decompose.specs.Enumeration.{Enumeration, left}
 use Rattle.written_items.specs.declared.item.Item.{Item}
 use Rattle.candidates.specs.declared.search.Search.{Search}
 use Rattle.candidates.specs.Grounds.{GroundValue}
-use Rattle.candidates.specs.PeakFormulas.{is_candidate, candidate_of, limits_of}
-use Rattle.candidates.specs.Searches.{IsSearch, GoesOn, Takes, IsFound, Outcome, Finds, todo, pending, candidates_in, masses_of}
+use Rattle.candidates.specs.PeakFormulas.{candidate_of}
+use Rattle.candidates.specs.Searches.{IsSearch, GoesOn, Takes, Finds, todo, pending, candidates_in}
 
 -- ---- one list is taken
 

@@ -1,6 +1,6 @@
 -- Where an enumeration of candidates stands, from its start on.
-use Rattle.std.proofs.Common.{◌≡◌, ℕ, ◌+◌, ◌<◌, ◌≤◌, Bool, true, false, cond, List, [], ◌∷◌, ◌++◌, length, map, filter, refl, sym, ap, ◌∙◌, subst, arith}
-use Rattle.std.specs.Prelude.{Option, Some, None, Result, Ok, Err, IsTrue, IfSome, IfOk, is_some, ◌&&◌, option_map}
+use Rattle.std.proofs.Common.{◌≡◌, ℕ, ◌≤◌, Bool, true, false, cond, List, [], ◌∷◌, ◌++◌, length, map, filter, refl, sym, ap, ◌∙◌, subst}
+use Rattle.std.specs.Prelude.{Option, Some, None, Ok, IfSome, is_some, ◌&&◌}
 use Rattle.std.proofs.lemmas.Bool.{false≢true}
 use Rattle.decompose.specs.declared.limits.Limit.{Limit}
 use Rattle.decompose.specs.CountLists.{IsInBox, box_of, comes_after}
@@ -9,15 +9,15 @@ use Rattle.decompose.specs.Masses as lists
 use Rattle.decompose.proofs.FindAndFilter.{filter_twice}
 use Rattle.mass_scaling.specs.declared.windows.Window.{Window}
 use Rattle.written_items.specs.declared.item.Item.{Item}
-use Rattle.formula_text.specs.Formulas.{formula_of, sum_of}
+use Rattle.formula_text.specs.Formulas.{formula_of}
 use Rattle.adducts.specs.Ions.{ion_mass}
 use Rattle.adducts.proofs.IonCounts.{formula-is_sum}
 use Rattle.candidates.specs.declared.search.Search.{Search}
 use Rattle.candidates.specs.Grounds.{GroundValue, IsGround}
 use Rattle.candidates.specs.PeakFormulas.{counts_of, formula_at, limits_of, candidate_if, candidate_of, is_candidate, is_ion_within, meets_rules, formulas_of_peak}
-use Rattle.candidates.specs.Enumeration.{CandidateEnumeration, counts_left, formulas_left}
-use Rattle.candidates.specs.Searches.{IsSearch, GoesOn, IsFound, Finds, Covers, todo, pending, candidates_in, masses_of}
-use Rattle.candidates.specs.Standings.{IsToken, IsStanding, given_if}
+use Rattle.candidates.specs.Enumeration.{CandidateEnumeration, formulas_left}
+use Rattle.candidates.specs.Searches.{IsSearch, GoesOn, Finds, Covers, todo, pending, candidates_in, masses_of}
+use Rattle.candidates.specs.Standings.{IsToken, IsStanding}
 
 filter-agree : {A : Type 0} (p q : A → Bool) (xs : List A) → ((x : A) → p x ≡ q x) → filter p xs ≡ filter q xs
 filter-agree p q [] same = refl

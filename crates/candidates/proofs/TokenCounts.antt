@@ -1,15 +1,14 @@
 -- The counts of a formula of an alphabet's box are those of a count list whose formula it is.
-use Rattle.std.proofs.Common.{◌≡◌, ℕ, zero, suc, ◌+◌, ◌<◌, ◌≤◌, Bool, true, false, cond, List, [], ◌∷◌, length, map, get_or, refl, sym, ap, ◌∙◌, subst, arith}
-use Rattle.std.specs.Prelude.{Option, Some, None, IsTrue, is_some, AllPairs, ◌&&◌, ◌||◌, nat_le, ◌↔◌}
-use Rattle.std.specs.List.{AllByRecursion, list_all, list_any, zip}
+use Rattle.std.proofs.Common.{◌≡◌, ℕ, zero, suc, ◌<◌, ◌≤◌, Bool, true, false, cond, List, [], ◌∷◌, length, map, get_or, refl, sym, ap, ◌∙◌, arith}
+use Rattle.std.specs.Prelude.{Some, IsTrue, AllPairs, ◌&&◌, ◌||◌, nat_le, ◌↔◌}
+use Rattle.std.specs.List.{list_any}
 use Rattle.std.proofs.lemmas.Bool.{false≢true, and_parts, and_from, leb-true}
 use Rattle.std.proofs.lemmas.Bool.Decides.{nat_tests}
-use Rattle.decompose.specs.declared.limits.Limit.{Limit}
 use Rattle.decompose.specs.CountLists.{IsInBox}
 use Rattle.written_items.specs.declared.item.Item.{Item}
 use Rattle.written_items.specs.Items.{item_eq}
-use Rattle.formula_text.specs.Formulas.{IsFormula, IsSumOf, count_in, formula_of}
-use Rattle.formula_text.proofs.HillOrderLaws.{item_eq-same, item_eq-itself, item_eq-symm}
+use Rattle.formula_text.specs.Formulas.{IsFormula, count_in, formula_of}
+use Rattle.formula_text.proofs.HillOrderLaws.{item_eq-same}
 use Rattle.formula_text.proofs.SumLimits.{formula_of-only}
 use Rattle.alphabet_text.specs.declared.entries.AlphabetEntry.{AlphabetEntry}
 use Rattle.alphabet_text.specs.Alphabets.{IsAlphabet}

@@ -1,5 +1,5 @@
 -- For proofs alone: what holds of an enumeration of candidates wherever it stands.
-use Rattle.std.specs.Prelude.{ℕ, ◌≡◌, ◌≤◌, Bool, true, IsTrue, List, length, is_some, Option, Some, None, IfSome, if◌then◌else◌}
+use Rattle.std.specs.Prelude.{ℕ, ◌≡◌, ◌≤◌, Bool, true, List, is_some, Option, Some, None, IfSome, if◌then◌else◌}
 use Rattle.decompose.specs.CountLists.{IsInBox}
 use Rattle.decompose.specs.Enumeration.{after_given}
 use Rattle.mass_scaling.specs.declared.limits.TheConstants.{MAX_MZ}

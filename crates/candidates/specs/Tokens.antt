@@ -1,5 +1,5 @@
 -- Formulas from which an enumeration can go on.
-use Rattle.std.specs.Prelude.{ℕ, Bool, ◌&&◌, nat_le, List, map, IsTrue}
+use Rattle.std.specs.Prelude.{ℕ, Bool, ◌&&◌, nat_le, List, IsTrue}
 use Rattle.std.specs.List.{list_all, list_any, zip}
 use Rattle.decompose.specs.declared.limits.Limit.{Limit}
 use Rattle.decompose.specs.CountLists.{IsInBox}

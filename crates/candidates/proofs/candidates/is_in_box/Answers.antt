@@ -1,4 +1,4 @@
-use Rattle.std.proofs.Common.{◌≡◌, true, sym, ap, ◌∙◌}
+use Rattle.std.proofs.Common.{true, sym, ap, ◌∙◌}
 use Rattle.candidates.specs.PeakFormulas.{items_of}
 use Rattle.candidates.specs.Tokens.{has_only, fits}
 use Rattle.candidates.proofs.TokenCounts.{box-tested}

@@ -1,4 +1,4 @@
-use Rattle.std.proofs.Common.{◌≡◌, refl, subst}
+use Rattle.std.proofs.Common.{refl, subst}
 use Rattle.mass_scaling.specs.Windows.{IsWindowOf, NoMassIsWithin}
 use Rattle.candidates.proofs.CandidateWindows.{window-covers, none-covers}
 use Rattle.candidates.proofs.candidates.peak_window.Goals as goal

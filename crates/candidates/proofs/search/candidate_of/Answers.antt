@@ -1,11 +1,9 @@
-use Rattle.std.proofs.Common.{◌≡◌, sym, subst, ◌∙◌}
+use Rattle.std.proofs.Common.{sym, subst, ◌∙◌}
 use Rattle.std.specs.Prelude.{IfSome, All}
 use Rattle.alphabet_text.specs.Alphabets.{IsEntryOf}
-use Rattle.element_table.specs.Elements.{TableEntries}
 use Rattle.formula_text.specs.Masses.{HasItems}
 use Rattle.formula_text.specs.Formulas.{IsSumOf}
 use Rattle.formula_text.proofs.KnownItems.{HasItems-sum}
-use Rattle.candidates.specs.PeakFormulas.{counts_of}
 use Rattle.candidates.proofs.AlphabetCounts.{HasItems-counts}
 use Rattle.candidates.proofs.search.candidate_of.Goals as goal
 

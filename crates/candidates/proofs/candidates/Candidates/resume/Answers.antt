@@ -1,4 +1,4 @@
-use Rattle.std.proofs.Common.{◌≡◌, ℕ, length, map, Some, Err, refl, sym, ap, subst, ◌∙◌}
+use Rattle.std.proofs.Common.{◌≡◌, length, map, Some, Err, sym, ap, subst, ◌∙◌}
 use Rattle.std.specs.Prelude.{All, Result, is_some}
 use Rattle.std.proofs.lemmas.Result.{err_from_is_err_and}
 use Rattle.decompose.specs.CountLists.{IsLimit, IsInBox}

@@ -1,4 +1,4 @@
-use Rattle.std.proofs.Common.{◌≡◌, ℕ, length, map, refl, sym, ap, subst, ◌∙◌}
+use Rattle.std.proofs.Common.{sym, ap, subst, ◌∙◌}
 use Rattle.std.specs.Prelude.{All, None}
 use Rattle.decompose.specs.CountLists.{IsLimit}
 use Rattle.candidates.specs.PeakFormulas.{limits_of}

@@ -1,4 +1,4 @@
-use Rattle.std.proofs.Common.{◌≡◌, ◌≤◌, ◌<◌, sym, ap, subst, ◌∙◌, arith, Err}
+use Rattle.std.proofs.Common.{sym, ap, subst, arith, Err}
 use Rattle.decompose.specs.Masses.{AreMasses, base_of}
 use Rattle.candidates.proofs.AlphabetMasses.{are_masses, base_of-alphabet}
 use Rattle.candidates.proofs.grounds.Ground.of.Goals as goal
