@@ -19,6 +19,7 @@ use Rattle.written_items.specs.WrittenRows.{WrittenPart, part_text}
 use Rattle.written_items.specs.RowReading.{row_of}
 use Rattle.written_items.proofs.RowLaws.{row_of-Ok, row_of-empty}
 use Rattle.decompose.specs.declared.limits.TheConstants.{MAX_COUNT}
+use Rattle.formula_text.specs.FormulaTexts.{has_written}
 use Rattle.alphabet_text.specs.declared.entries.AlphabetEntry.{AlphabetEntry}
 use Rattle.alphabet_text.specs.declared.fault.AlphabetFault.{AlphabetFault}
 use Rattle.alphabet_text.specs.declared.fault.AlphabetFault.TheVariants.{BadText, UnknownSymbol, Repeated, EmptyRange}
@@ -27,14 +28,14 @@ use Rattle.alphabet_text.specs.declared.written.WrittenEntry.{WrittenEntry}
 use Rattle.alphabet_text.specs.AlphabetFaults.{is_memory}
 use Rattle.alphabet_text.specs.AlphabetTexts.{IsRangeTail, limit_of_tail}
 use Rattle.alphabet_text.specs.Alphabets.{stands_before, IsEntryOf}
-use Rattle.alphabet_text.specs.AlphabetReadings.{AlphabetReading, is_known, entry_of, high_places, entry_faults}
+use Rattle.alphabet_text.specs.AlphabetReadings.{AlphabetReading, entry_of, high_places, entry_faults}
 use Rattle.alphabet_text.specs.AlphabetReadings.{faults_behind, row_faults, alphabet_in}
 use Rattle.alphabet_text.specs.AlphabetAnswers.{range_tail, unless_faults, row_answer, alphabet_of}
 use Rattle.alphabet_text.specs.WrittenEntries.{entry_value, entry_values, entries_at, first_high_place}
-use Rattle.alphabet_text.specs.WrittenEntries.{table_entry, entry_with, told_isotope, has_item, sound_entry}
-use Rattle.alphabet_text.specs.WrittenEntries.{gathered}
+use Rattle.alphabet_text.specs.WrittenEntries.{table_entry, entry_with, leading_isotope, has_item, sound_entry}
+use Rattle.alphabet_text.specs.WrittenEntries.{entries_behind}
 use Rattle.alphabet_text.proofs.HighPlaces.{first_high_place-values, uncapped-row, AreUncapped, low-values}
-use Rattle.alphabet_text.proofs.KnownItems.{told-known}
+use Rattle.alphabet_text.proofs.KnownItems.{leading_isotope-known}
 use Rattle.alphabet_text.proofs.RangeTails.{ranges-read}
 use Rattle.alphabet_text.proofs.OneReading.{meaning}
 use Rattle.alphabet_text.specs.declared.entries.TheConstants.{MAX_ENTRIES}
@@ -70,26 +71,26 @@ sound-known true es at e = refl
 sound-known false es at e = refl
 
 -- the entries of a row, read one after another
-gathered-row : (table : TableEntries) → IsTable table → (row : List WrittenPart) → AreUncapped row
+entries_behind-row : (table : TableEntries) → IsTable table → (row : List WrittenPart) → AreUncapped row
     → (earlier : List WrittenPart) (at : ℕ)
-    → gathered table (map (entry_of table) earlier) (entry_values at row)
+    → entries_behind table (map (entry_of table) earlier) (entry_values at row)
     ≡ unless_faults (faults_behind table earlier at row) (map (entry_of table) (earlier ++ row))
-gathered-row table is [] uncapped earlier at = ap (λ l. Ok (map (entry_of table) l)) (sym (append-nil earlier))
-gathered-row table is (part ∷ row) uncapped earlier at =
+entries_behind-row table is [] uncapped earlier at = ap (λ l. Ok (map (entry_of table) l)) (sym (append-nil earlier))
+entries_behind-row table is (part ∷ row) uncapped earlier at =
     let es : List AlphabetEntry = map (entry_of table) earlier in
     let e : AlphabetEntry = entry_of table part in
     let next : AlphabetEntry → Answer =
-    λ x. gathered table (es ++ x ∷ []) (entry_values (at + length (part_text part)) row) in
-    let known : Bool = is_known table part.item in
+    λ x. entries_behind table (es ++ x ∷ []) (entry_values (at + length (part_text part)) row) in
+    let known : Bool = has_written table part.item in
     let told : table_entry table (entry_value at part) ≡ cond known (Some e) None =
     ap (λ l. entry_with (record { symbol = part.item.symbol; label = unwrap_or (item_value part.item).number 0 }) l
-    (told_isotope table (item_value part.item))) uncapped.0
-    ∙ told-known table part.item (limit_of_tail part.tail) is in
+    (leading_isotope table (item_value part.item))) uncapped.0
+    ∙ leading_isotope-known table part.item (limit_of_tail part.tail) is in
     let rest : next e ≡ unless_faults (faults_behind table (earlier ++ part ∷ []) (at + length (part_text part)) row)
     (map (entry_of table) (earlier ++ part ∷ row)) =
-    ap (λ l. gathered table l (entry_values (at + length (part_text part)) row))
+    ap (λ l. entries_behind table l (entry_values (at + length (part_text part)) row))
     (sym (map-append (entry_of table) earlier (part ∷ [])))
-    ∙ gathered-row table is row uncapped.1 (earlier ++ part ∷ []) (at + length (part_text part))
+    ∙ entries_behind-row table is row uncapped.1 (earlier ++ part ∷ []) (at + length (part_text part))
     ∙ ap (λ l. unless_faults (faults_behind table (earlier ++ part ∷ []) (at + length (part_text part)) row)
     (map (entry_of table) l)) (append_assoc earlier (part ∷ []) row) in
     ap (λ o. sound_entry es at o >>= next) told
@@ -112,10 +113,10 @@ many_faults row = cond (nat_lt MAX_ENTRIES (length row)) (TooMany ∷ []) []
 -- the answer for a row without limits above 10,000
 low-row : (table : TableEntries) → IsTable table → (row : List WrittenPart) → high_places 0 row ≡ []
     → first_high_place (entry_values 0 row) ≡ None
-    → (gathered table [] (entry_values 0 row) >>= unless_many)
+    → (entries_behind table [] (entry_values 0 row) >>= unless_many)
     ≡ unless_faults (row_faults table row) (alphabet_in table row)
 low-row table is row none low =
-    ap (λ r. r >>= unless_many) (gathered-row table is row (uncapped-row 0 row low) [] 0)
+    ap (λ r. r >>= unless_many) (entries_behind-row table is row (uncapped-row 0 row low) [] 0)
     ∙ by (faults_behind table [] 0 row)
     ∙ ap (λ places. unless_faults (map BadText places ++ faults_behind table [] 0 row ++ many_faults row)
     (alphabet_in table row)) (sym none)
@@ -205,13 +206,13 @@ no_first (p ∷ places) e = cc
 
 pub low-limits : (table : TableEntries) (text : List ℕ) (ws : List WrittenEntry) → IsTable table → ReadRow text ws
     → first_high_place ws ≡ None
-    → alphabet_of table text ≡ (gathered table [] ws >>= unless_many)
+    → alphabet_of table text ≡ (entries_behind table [] ws >>= unless_many)
 low-limits table text ws is row low =
     let parts : List WrittenPart = row.first ∷ row.others in
     let none = ap first_high_place (sym row.values) ∙ low in
     ap (row_answer table) row.read
     ∙ sym (low-row table is parts (no_first (high_places 0 parts) (sym (first_high_place-values 0 parts) ∙ none)) none)
-    ∙ ap (λ vs. gathered table [] vs >>= unless_many) (sym row.values)
+    ∙ ap (λ vs. entries_behind table [] vs >>= unless_many) (sym row.values)
 
 pub low-numbers : (text : List ℕ) (ws : List WrittenEntry) → ReadRow text ws → first_high_place ws ≡ None
     → All (λ w. w.range.limit.high ≤ MAX_COUNT) ws
@@ -236,23 +237,23 @@ none_left (x ∷ xs) ys e = cc
 
 known-row : (table : TableEntries) (earlier : List WrittenPart) (at : ℕ) (row : List WrittenPart)
     → faults_behind table earlier at row ≡ []
-    → AllByRecursion (λ part. is_known table part.item ≡ true) row
+    → AllByRecursion (λ part. has_written table part.item ≡ true) row
 known-row table earlier at [] e = tt
 known-row table earlier at (part ∷ row) e =
     let both =
     none_left (entry_faults table earlier at part)
     (faults_behind table (earlier ++ part ∷ []) (at + length (part_text part)) row) e in (
-      unknown_first (is_known table part.item) at _ _ both.0,
+      unknown_first (has_written table part.item) at _ _ both.0,
       known-row table (earlier ++ part ∷ [])
           (at + length (part_text part)) row both.1,
     )
 
-entry-known : (table : TableEntries) (part : WrittenPart) → is_known table part.item ≡ true
+entry-known : (table : TableEntries) (part : WrittenPart) → has_written table part.item ≡ true
     → IsEntryOf table (entry_of table part)
 entry-known table part known = record { known = (and_parts (names_item part.item) _ known).1; mass = refl }
 
 entries-known : (table : TableEntries) (row : List WrittenPart)
-    → AllByRecursion (λ part. is_known table part.item ≡ true) row
+    → AllByRecursion (λ part. has_written table part.item ≡ true) row
     → All (IsEntryOf table) (map (entry_of table) row)
 entries-known table [] known = All-nil (IsEntryOf table)
 entries-known table (part ∷ row) known =

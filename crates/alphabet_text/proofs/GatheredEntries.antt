@@ -17,25 +17,25 @@ use Rattle.alphabet_text.specs.declared.fault.AlphabetFault.{AlphabetFault}
 use Rattle.alphabet_text.specs.declared.written.WrittenEntry.{WrittenEntry}
 use Rattle.alphabet_text.specs.Alphabets.{AreEntries, IsMassOfIsotope}
 use Rattle.alphabet_text.specs.AlphabetFaults.{is_memory}
-use Rattle.alphabet_text.specs.WrittenEntries.{gathered, entry_behind, has_item}
+use Rattle.alphabet_text.specs.WrittenEntries.{entries_behind, entry_behind, has_item}
 
-pub gathered-step : (table : TableEntries) (es : List AlphabetEntry) (ws : List WrittenEntry)
+pub entries_behind-step : (table : TableEntries) (es : List AlphabetEntry) (ws : List WrittenEntry)
     (i : ℕ) (w : WrittenEntry) (e : AlphabetEntry)
     → i < length ws → w ≡ get_or ws i w → Ok e ≡ entry_behind table es w
-    → gathered table es (drop i ws) ≡ gathered table (es ++ e ∷ []) (drop (i + 1) ws)
-gathered-step table es ws i w e within is read =
-    ap (gathered table es) (drop-cons ws i w within)
-    ∙ ap (λ v. entry_behind table es v >>= λ x. gathered table (es ++ x ∷ []) (drop (suc i) ws)) (sym is)
-    ∙ ap (λ r. r >>= λ x. gathered table (es ++ x ∷ []) (drop (suc i) ws)) (sym read)
-    ∙ ap (λ n. gathered table (es ++ e ∷ []) (drop n ws)) (sym (add-one i))
+    → entries_behind table es (drop i ws) ≡ entries_behind table (es ++ e ∷ []) (drop (i + 1) ws)
+entries_behind-step table es ws i w e within is read =
+    ap (entries_behind table es) (drop-cons ws i w within)
+    ∙ ap (λ v. entry_behind table es v >>= λ x. entries_behind table (es ++ x ∷ []) (drop (suc i) ws)) (sym is)
+    ∙ ap (λ r. r >>= λ x. entries_behind table (es ++ x ∷ []) (drop (suc i) ws)) (sym read)
+    ∙ ap (λ n. entries_behind table (es ++ e ∷ []) (drop n ws)) (sym (add-one i))
 
-pub gathered-stop : (table : TableEntries) (es : List AlphabetEntry) (ws : List WrittenEntry)
+pub entries_behind-stop : (table : TableEntries) (es : List AlphabetEntry) (ws : List WrittenEntry)
     (i : ℕ) (w : WrittenEntry) (f : AlphabetFault)
-    → i < length ws → w ≡ get_or ws i w → Err f ≡ entry_behind table es w → gathered table es (drop i ws) ≡ Err f
-gathered-stop table es ws i w f within is read =
-    ap (gathered table es) (drop-cons ws i w within)
-    ∙ ap (λ v. entry_behind table es v >>= λ x. gathered table (es ++ x ∷ []) (drop (suc i) ws)) (sym is)
-    ∙ ap (λ r. r >>= λ x. gathered table (es ++ x ∷ []) (drop (suc i) ws)) (sym read)
+    → i < length ws → w ≡ get_or ws i w → Err f ≡ entry_behind table es w → entries_behind table es (drop i ws) ≡ Err f
+entries_behind-stop table es ws i w f within is read =
+    ap (entries_behind table es) (drop-cons ws i w within)
+    ∙ ap (λ v. entry_behind table es v >>= λ x. entries_behind table (es ++ x ∷ []) (drop (suc i) ws)) (sym is)
+    ∙ ap (λ r. r >>= λ x. entries_behind table (es ++ x ∷ []) (drop (suc i) ws)) (sym read)
 
 -- an answer that is the expected one
 pub Gives-same : {A : Type 0} (r x : Result A AlphabetFault) → x ≡ r → Gives is_memory r x
@@ -66,10 +66,6 @@ AllPairs-push {X} R (x ∷ xs) y pairs all =
     (AllPairs-push R xs y (λ i j d before within. pairs (suc i) (suc j) d (omega arith) (omega arith))
     (All-tail (λ x. R x y) x xs all))
 
-pub AreEntries-nil : AreEntries []
-AreEntries-nil =
-    record { masses = All-nil _; limits = All-nil _; distinct = λ i j d before within. absurd (omega arith) }
-
 pub AreEntries-push : (es : List AlphabetEntry) (e : AlphabetEntry) → AreEntries es → IsMassOfIsotope e.mass
     → IsLimit e.limit
     → has_item es e.item ≡ false → AreEntries (es ++ e ∷ [])
@@ -81,13 +77,15 @@ AreEntries-push es e are mass limit new =
     }
 
 -- one entry for each that is written
-pub length-gathered : (table : TableEntries) (earlier : List AlphabetEntry) (ws : List WrittenEntry)
+pub length-entries_behind : (table : TableEntries) (earlier : List AlphabetEntry) (ws : List WrittenEntry)
     (es : List AlphabetEntry)
-    → gathered table earlier ws ≡ Ok es → length es ≡ length earlier + length ws
-length-gathered table earlier [] es e = let same : earlier ≡ es = cc in omega (arith, ap length same)
-length-gathered table earlier (w ∷ ws) es e =
-    elim (entry_behind table earlier w) as (λ r. (r >>= λ x. gathered table (earlier ++ x ∷ []) ws) ≡ Ok es → length es
-    ≡ length earlier + length (w ∷ ws)) [
-      | Ok x ↦ λ e. omega (arith, length-gathered table (earlier ++ x ∷ []) ws es e, length-append earlier (x ∷ []))
+    → entries_behind table earlier ws ≡ Ok es → length es ≡ length earlier + length ws
+length-entries_behind table earlier [] es e = let same : earlier ≡ es = cc in omega (arith, ap length same)
+length-entries_behind table earlier (w ∷ ws) es e =
+    elim (entry_behind table earlier w) as (λ r. (r >>= λ x. entries_behind table (earlier ++ x ∷ []) ws) ≡ Ok es
+    → length es ≡ length earlier + length (w ∷ ws)) [
+      | Ok x ↦ λ e.
+          let rest = length-entries_behind table (earlier ++ x ∷ []) ws es e in
+          omega (arith, length-append earlier (x ∷ []))
       | Err f ↦ λ e. cc
     ] e

@@ -9,16 +9,18 @@ use Rattle.decompose.specs.declared.limits.Limit.{Limit}
 use Rattle.decompose.specs.declared.limits.TheConstants.{MAX_COUNT}
 use Rattle.written_items.specs.WrittenItems.{written_text}
 use Rattle.written_items.specs.WrittenRows.{WrittenPart, part_text}
+use Rattle.std.specs.Option.{option_or}
+use Rattle.fixed_decimal.specs.Decimal.{leading_digits}
 use Rattle.alphabet_text.specs.declared.written.WrittenEntry.{WrittenEntry}
-use Rattle.alphabet_text.specs.AlphabetTexts.{limit_of_tail, low_digits}
+use Rattle.alphabet_text.specs.AlphabetTexts.{limit_of_tail}
 use Rattle.alphabet_text.specs.AlphabetReadings.{high_places_of, high_places}
-use Rattle.alphabet_text.specs.WrittenEntries.{capped, high_place, or_next, first_high_place, entry_values}
+use Rattle.alphabet_text.specs.WrittenEntries.{limit_value, high_place, first_high_place, entry_values}
 
 pub first_high_place-step : (es : List WrittenEntry) (i : ℕ) (d : WrittenEntry) → i < length es
-    → first_high_place (drop i es) ≡ or_next (get_or es i d).range.high_place (first_high_place (drop (i + 1) es))
+    → first_high_place (drop i es) ≡ option_or (get_or es i d).range.high_place (first_high_place (drop (i + 1) es))
 first_high_place-step es i d within =
     ap first_high_place (drop-cons es i d within)
-    ∙ ap (λ n. or_next (get_or es i d).range.high_place (first_high_place (drop n es))) (sym (add-one i))
+    ∙ ap (λ n. option_or (get_or es i d).range.high_place (first_high_place (drop n es))) (sym (add-one i))
 
 capped-above : (n : ℕ) → nat_lt MAX_COUNT (min n (MAX_COUNT + 1)) ≡ nat_lt MAX_COUNT n
 capped-above n = grind (arith, nat_tests)
@@ -26,9 +28,9 @@ capped-above n = grind (arith, nat_tests)
 capped-below : (n : ℕ) → nat_lt MAX_COUNT (min n (MAX_COUNT + 1)) ≡ false → min n (MAX_COUNT + 1) ≡ n
 capped-below n h = grind (arith, nat_tests)
 
-or_next-append : (xs ys : List ℕ) → or_next (slice_get xs 0) (slice_get ys 0) ≡ slice_get (xs ++ ys) 0
-or_next-append [] ys = refl
-or_next-append (x ∷ xs) ys = refl
+option_or-append : (xs ys : List ℕ) → option_or (slice_get xs 0) (slice_get ys 0) ≡ slice_get (xs ++ ys) 0
+option_or-append [] ys = refl
+option_or-append (x ∷ xs) ys = refl
 
 first_of_two : (a b : Bool) (x y : ℕ)
     → cond a (Some x) (cond b (Some y) None) ≡ slice_get (cond a (x ∷ []) [] ++ cond b (y ∷ []) []) 0
@@ -37,11 +39,11 @@ first_of_two false true x y = refl
 first_of_two false false x y = refl
 
 high_place-tail : (at : ℕ) (tail : List ℕ)
-    → high_place (capped (limit_of_tail tail)) at (at + length (low_digits tail) + 1)
+    → high_place (limit_value (limit_of_tail tail)) at (at + length (leading_digits tail) + 1)
     ≡ slice_get (high_places_of at tail) 0
 high_place-tail at tail =
     let limit : Limit = limit_of_tail tail in
-    let high_at : ℕ = at + length (low_digits tail) + 1 in
+    let high_at : ℕ = at + length (leading_digits tail) + 1 in
     ap₂ (λ a b. cond a (Some at) (cond b (Some high_at) None)) (capped-above limit.low) (capped-above limit.high)
     ∙ first_of_two (nat_lt MAX_COUNT limit.low) (nat_lt MAX_COUNT limit.high) at high_at
 
@@ -51,17 +53,17 @@ pub first_high_place-values : (at : ℕ) (row : List WrittenPart)
 first_high_place-values at [] = refl
 first_high_place-values at (part ∷ row) =
     let tail_at : ℕ = at + length (written_text part.item) in
-    ap₂ or_next (high_place-tail tail_at part.tail) (first_high_place-values (at + length (part_text part)) row)
-    ∙ or_next-append (high_places_of tail_at part.tail) (high_places (at + length (part_text part)) row)
+    ap₂ option_or (high_place-tail tail_at part.tail) (first_high_place-values (at + length (part_text part)) row)
+    ∙ option_or-append (high_places_of tail_at part.tail) (high_places (at + length (part_text part)) row)
 
 -- where there is none, no number was capped
 abbrev pub AreUncapped : List WrittenPart → Type 0
 AreUncapped [] = Unit {0}
-AreUncapped (part ∷ row) = (capped (limit_of_tail part.tail) ≡ limit_of_tail part.tail) × AreUncapped row
+AreUncapped (part ∷ row) = (limit_value (limit_of_tail part.tail) ≡ limit_of_tail part.tail) × AreUncapped row
 
-or_next-None : (a b : Option ℕ) → or_next a b ≡ None → (a ≡ None) × (b ≡ None)
-or_next-None None b e = (refl, e)
-or_next-None (Some x) b e = cc
+option_or-None : (a b : Option ℕ) → option_or a b ≡ None → (a ≡ None) × (b ≡ None)
+option_or-None None b e = (refl, e)
+option_or-None (Some x) b e = cc
 
 none_of_two : (a b : Bool) (x y : ℕ) → cond a (Some x) (cond b (Some y) None) ≡ None → (a ≡ false) × (b ≡ false)
 none_of_two true b x y e = cc
@@ -69,15 +71,16 @@ none_of_two false true x y e = cc
 none_of_two false false x y e = (refl, refl)
 
 uncapped : (limit : Limit) → (min limit.low (MAX_COUNT + 1) ≡ limit.low) → (min limit.high (MAX_COUNT + 1) ≡ limit.high)
-    → capped limit ≡ limit
+    → limit_value limit ≡ limit
 uncapped limit low high = ap₂ (λ a b. record { low = a; high = b }) low high
 
 pub uncapped-row : (at : ℕ) (row : List WrittenPart) → first_high_place (entry_values at row) ≡ None → AreUncapped row
 uncapped-row at [] none = tt
 uncapped-row at (part ∷ row) none =
     let limit : Limit = limit_of_tail part.tail in
-    let both = or_next-None _ (first_high_place (entry_values (at + length (part_text part)) row)) none in
-    let tests = none_of_two (nat_lt MAX_COUNT (capped limit).low) (nat_lt MAX_COUNT (capped limit).high) _ _ both.0 in (
+    let both = option_or-None _ (first_high_place (entry_values (at + length (part_text part)) row)) none in
+    let capped : Limit = limit_value limit in
+    let tests = none_of_two (nat_lt MAX_COUNT capped.low) (nat_lt MAX_COUNT capped.high) _ _ both.0 in (
       uncapped limit (capped-below limit.low tests.0) (capped-below limit.high tests.1),
       uncapped-row
           (at + length (part_text part)) row both.1,
@@ -91,7 +94,8 @@ pub low-values : (at : ℕ) (row : List WrittenPart) → first_high_place (entry
 low-values at [] none = All-nil _
 low-values at (part ∷ row) none =
     let limit : Limit = limit_of_tail part.tail in
-    let both = or_next-None _ (first_high_place (entry_values (at + length (part_text part)) row)) none in
-    let tests = none_of_two (nat_lt MAX_COUNT (capped limit).low) (nat_lt MAX_COUNT (capped limit).high) _ _ both.0 in
-    All-cons (λ (w : WrittenEntry). w.range.limit.high ≤ MAX_COUNT) _ _ (at_most (capped limit).high tests.1)
+    let both = option_or-None _ (first_high_place (entry_values (at + length (part_text part)) row)) none in
+    let capped : Limit = limit_value limit in
+    let tests = none_of_two (nat_lt MAX_COUNT capped.low) (nat_lt MAX_COUNT capped.high) _ _ both.0 in
+    All-cons (λ (w : WrittenEntry). w.range.limit.high ≤ MAX_COUNT) _ _ (at_most (limit_value limit).high tests.1)
     (low-values (at + length (part_text part)) row both.1)

@@ -12,10 +12,10 @@ use Rattle.element_table.specs.declared.element.Isotope.{Isotope}
 use Rattle.element_table.specs.Elements.{IsElement, IsTable, ElementEntry, TableEntries, isotope_of, element_of}
 use Rattle.element_table.specs.Elements.{reference_isotope}
 use Rattle.written_items.specs.WrittenItems.{WrittenItem, item_of, item_value}
+use Rattle.formula_text.specs.FormulaTexts.{has_written}
 use Rattle.alphabet_text.specs.declared.entries.AlphabetEntry.{AlphabetEntry}
 use Rattle.formula_text.specs.Masses.{isotope_in, isotope_if, isotope_mass, item_mass}
-use Rattle.alphabet_text.specs.AlphabetReadings.{is_known}
-use Rattle.alphabet_text.specs.WrittenEntries.{isotope_told, told_isotope, entry_with}
+use Rattle.alphabet_text.specs.WrittenEntries.{isotope_or_none, leading_isotope, entry_with}
 use Rattle.alphabet_text.proofs.TableIsotopes.{found_element, isotope_of-none, IsNoNumber}
 
 -- a mass number up to the greatest of 32 bits
@@ -112,17 +112,17 @@ labelled symbol e v limit is = elim (cases_lt 0 v) [
 ]
 
 -- an item's entry is told where the table knows the item
-pub told-known : (table : TableEntries) (w : WrittenItem) (limit : Limit) → IsTable table
+pub leading_isotope-known : (table : TableEntries) (w : WrittenItem) (limit : Limit) → IsTable table
     → entry_with (record { symbol = w.symbol; label = unwrap_or (item_value w).number 0 }) limit
-    (told_isotope table (item_value w))
-    ≡ cond (is_known table w) (Some
+    (leading_isotope table (item_value w))
+    ≡ cond (has_written table w) (Some
     (record { item = item_of w; mass = item_mass table (item_of w); limit = limit })) None
-told-known table w limit is =
+leading_isotope-known table w limit is =
     by w.digits (element_of table w.symbol) (λ e there. found_element table w.symbol e is there)
   where
     by : (digits : Option (List ℕ)) (o : Option ElementEntry) → ((e : ElementEntry) → o ≡ Some e → IsElement e)
         → entry_with (record { symbol = w.symbol; label = unwrap_or (number_of digits) 0 }) limit
-        (isotope_told o (number_of digits))
+        (isotope_or_none o (number_of digits))
         ≡ entry_where (names digits && is_some (isotope_if o (label_of digits))) w.symbol (label_of digits)
         (isotope_if o (label_of digits)) limit
     by None None elements = refl

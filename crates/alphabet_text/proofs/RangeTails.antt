@@ -21,7 +21,7 @@ use Rattle.fixed_decimal.specs.Decimal.{leading_digits}
 use Rattle.written_items.proofs.BadPlaceSteps.{first_byte, bad-here, bad-behind}
 use Rattle.written_items.proofs.ByteKinds.{digit-small, start-digit, begins-first, take_while-run}
 use Rattle.written_items.proofs.ByteKinds.{digits-numeral, numeral-digits}
-use Rattle.written_items.proofs.ByteKinds.{take_while-passes, take_while-stops}
+use Rattle.written_items.proofs.ByteKinds.{take_while-stops}
 use Rattle.written_items.proofs.LeadingSymbols.{append-cancel}
 use Rattle.written_items.proofs.RowLaws.{StartsItem, TailRow, ReadsTails, no-parts}
 use Rattle.alphabet_text.specs.AlphabetTexts.{hyphen, IsRange, IsRangeTail}
@@ -126,9 +126,6 @@ record EndsBehindHyphen (text : List ℕ) (place : ℕ) : Type 0 where
   hyphen_is : begins is_hyphen (behind_digits text) ≡ true
   no_high : length (leading_digits (drop 1 (behind_digits text))) ≡ 0
   place_is : length (leading_digits text) + 1 ≡ place
-
-same_value : (x y : List ℕ) (r : Result (List ℕ) ℕ) → r ≡ Ok x → r ≡ Ok y → x ≡ y
-same_value x y r a b = cc
 
 same_place : (x y : ℕ) (r : Result (List ℕ) ℕ) → r ≡ Err x → r ≡ Err y → x ≡ y
 same_place x y r a b = cc

@@ -12,9 +12,9 @@ use Rattle.fixed_decimal.specs.Decimal.{leading_digits}
 use Rattle.fixed_decimal.specs.DecimalTexts.{IsDigits}
 use Rattle.alphabet_text.specs.declared.written.WrittenRange.{WrittenRange}
 use Rattle.alphabet_text.specs.declared.fault.AlphabetFault.{AlphabetFault}
-use Rattle.alphabet_text.specs.AlphabetTexts.{hyphen, limit_of_tail, low_digits, high_digits}
+use Rattle.alphabet_text.specs.AlphabetTexts.{hyphen, limit_of_tail, high_digits}
 use Rattle.alphabet_text.specs.AlphabetAnswers.{range_tail}
-use Rattle.alphabet_text.specs.WrittenEntries.{capped, high_place, range_at}
+use Rattle.alphabet_text.specs.WrittenEntries.{limit_value, high_place, range_at}
 use Rattle.alphabet_text.proofs.RangeTails.{is_hyphen, behind_digits, high_of, digits-before, leading-number}
 use Rattle.alphabet_text.proofs.RangeTails.{tail-of-range}
 
@@ -23,7 +23,7 @@ limit-written : (low high : List ℕ) → IsDigits low
 limit-written [] high n = let some = n.0 in absurd (omega (arith, some))
 limit-written (d ∷ ds) high n =
     let low : List ℕ = d ∷ ds in
-    let digits : low_digits (low ++ hyphen ∷ high) ≡ low = digits-before low (hyphen ∷ high) n refl in
+    let digits : leading_digits (low ++ hyphen ∷ high) ≡ low = digits-before low (hyphen ∷ high) n refl in
     let behind : high_digits (low ++ hyphen ∷ high) ≡ high =
     ap (λ l. drop (length l + 1) (low ++ hyphen ∷ high)) digits ∙ drop-append-add low (hyphen ∷ high) 1 in
     ap₂ (λ a b. record { low = digits_value 10 a; high = digits_value 10 b }) digits behind
@@ -48,15 +48,15 @@ range-kept text at low high place some there more low_is high_is place_is =
     let second : List ℕ = high_of text in
     let tail : List ℕ = first ++ hyphen ∷ second in
     let n = leading-number text (above_zero (length first) some) in
-    let limit : record { low = low; high = high } ≡ capped (limit_of_tail tail) =
-    ap₂ (λ a b. record { low = a; high = b }) low_is high_is ∙ sym (ap capped (limit-written first second n)) in
-    let digits : low_digits tail ≡ first = digits-before first (hyphen ∷ second) n refl in
-    let place_there : place ≡ high_place (capped (limit_of_tail tail)) at (at + length (low_digits tail) + 1) =
+    let limit : record { low = low; high = high } ≡ limit_value (limit_of_tail tail) =
+    ap₂ (λ a b. record { low = a; high = b }) low_is high_is ∙ sym (ap limit_value (limit-written first second n)) in
+    let digits : leading_digits tail ≡ first = digits-before first (hyphen ∷ second) n refl in
+    let place_there : place ≡ high_place (limit_value (limit_of_tail tail)) at (at + length (leading_digits tail) + 1) =
     place_is ∙ ap₂ (λ l d. high_place l at (at + length d + 1)) limit (sym digits) in
     let count : length first + 1 + length second ≡ length tail = omega (arith, length-append first (hyphen ∷ second)) in
-    let place_of : ℕ → Option ℕ = high_place (capped (limit_of_tail tail)) at in
+    let place_of : ℕ → Option ℕ = high_place (limit_value (limit_of_tail tail)) at in
     ap₂ (kept (length first + 1 + length second)) limit place_there
-    ∙ ap (λ n. kept n (capped (limit_of_tail tail)) (place_of (at + length (low_digits tail) + 1))) count
+    ∙ ap (λ n. kept n (limit_value (limit_of_tail tail)) (place_of (at + length (leading_digits tail) + 1))) count
     ∙ sym (ap (range_at at) (tail-of-range text some there more))
   where
     above_zero : (n : ℕ) → (n == 0) ≡ false → 0 < n

@@ -1,25 +1,23 @@
 -- What an alphabet's text is read as with a table: the alphabet, or the first fault.
-use Rattle.std.specs.Prelude.{ℕ, ◌+◌, ◌≡◌, ◌⊎◌, Bool, ◌&&◌, nat_lt, List, [], ◌∷◌, ◌++◌, length, map, slice_get}
-use Rattle.std.specs.Prelude.{is_some, if◌then◌else◌, Some, Result, Ok, Err}
+use Rattle.std.specs.Prelude.{ℕ, ◌+◌, ◌≡◌, ◌⊎◌, nat_lt, List, [], ◌∷◌, ◌++◌, length, map, slice_get}
+use Rattle.std.specs.Prelude.{if◌then◌else◌, Some, Result, Ok, Err}
 use Rattle.std.specs.List.{list_any}
 use Rattle.decompose.specs.declared.limits.TheConstants.{MAX_COUNT}
 use Rattle.element_table.specs.Elements.{TableEntries}
+use Rattle.fixed_decimal.specs.Decimal.{leading_digits}
 use Rattle.reader_answers.specs.BadPlaces.{IsBadPlace}
 use Rattle.sorted_lists.specs.SortedLists.{sorted_by}
 use Rattle.written_items.specs.Items.{item_eq}
-use Rattle.written_items.specs.WrittenItems.{WrittenItem, item_of, names_item, written_text}
+use Rattle.written_items.specs.WrittenItems.{item_of, written_text}
 use Rattle.written_items.specs.WrittenRows.{WrittenPart, part_text}
 use Rattle.alphabet_text.specs.declared.entries.AlphabetEntry.{AlphabetEntry}
 use Rattle.alphabet_text.specs.declared.fault.AlphabetFault.{AlphabetFault}
 use Rattle.alphabet_text.specs.declared.fault.AlphabetFault.TheVariants as fault
-use Rattle.alphabet_text.specs.AlphabetTexts.{IsAlphabetText, IsAlphabetRow, limit_of_tail, low_digits}
+use Rattle.alphabet_text.specs.AlphabetTexts.{IsAlphabetText, IsAlphabetRow, limit_of_tail}
 use Rattle.alphabet_text.specs.Alphabets.{stands_before}
-use Rattle.formula_text.specs.Masses.{item_isotope, item_mass}
+use Rattle.formula_text.specs.FormulaTexts.{has_written}
+use Rattle.formula_text.specs.Masses.{item_mass}
 use Rattle.alphabet_text.specs.declared.entries.TheConstants.{MAX_ENTRIES}
-
--- whether the table has what a written item names: the element, and the isotope of a labelled one
-abbrev pub is_known : TableEntries → WrittenItem → Bool
-is_known table item = names_item item && is_some (item_isotope table (item_of item))
 
 -- the entry that is written: the item, its mass and its limits
 abbrev pub entry_of : TableEntries → WrittenPart → AlphabetEntry
@@ -34,7 +32,7 @@ entry_of table part =
 abbrev pub high_places_of : ℕ → List ℕ → List ℕ
 high_places_of at tail =
     (if nat_lt MAX_COUNT (limit_of_tail tail).low then at ∷ [] else [])
-    ++ (if nat_lt MAX_COUNT (limit_of_tail tail).high then (at + length (low_digits tail) + 1) ∷ [] else [])
+    ++ (if nat_lt MAX_COUNT (limit_of_tail tail).high then (at + length (leading_digits tail) + 1) ∷ [] else [])
 
 -- the same of a row at a place
 abbrev pub high_places : ℕ → List WrittenPart → List ℕ
@@ -46,7 +44,7 @@ high_places at (part ∷ row) =
 -- range is empty
 abbrev pub entry_faults : TableEntries → List WrittenPart → ℕ → WrittenPart → List AlphabetFault
 entry_faults table earlier at part =
-    (if is_known table part.item then [] else fault.UnknownSymbol at ∷ [])
+    (if has_written table part.item then [] else fault.UnknownSymbol at ∷ [])
     ++ (if list_any (λ other. item_eq (item_of other.item)
     (item_of part.item)) earlier then fault.Repeated at ∷ [] else [])
     ++ (if nat_lt (limit_of_tail part.tail).high (limit_of_tail part.tail).low then fault.EmptyRange at ∷ [] else [])

@@ -3,11 +3,10 @@
 --     entry    = item range?
 --     range    = digits "-" digits       one or more digits each
 use Rattle.std.specs.Prelude.{ℕ, ◌+◌, ◌<◌, ◌≡◌, List, [], ◌∷◌, ◌++◌, length, drop}
-use Rattle.std.specs.List.{take_while}
-use Rattle.std.specs.Char.{is_ascii_digit}
 use Rattle.std.specs.Str.Parse.{digits_value}
 use Rattle.decompose.specs.declared.limits.Limit.{Limit}
 use Rattle.decompose.specs.declared.limits.TheConstants.{MAX_COUNT}
+use Rattle.fixed_decimal.specs.Decimal.{leading_digits}
 use Rattle.fixed_decimal.specs.DecimalTexts.{IsDigits}
 use Rattle.written_items.specs.WrittenRows.{WrittenPart, IsRowOf}
 
@@ -37,15 +36,15 @@ pub record IsAlphabetRow (row : List WrittenPart) (text : List ℕ) : Type 0 whe
 abbrev pub IsAlphabetText : List ℕ → Type 0
 IsAlphabetText text = (row : List WrittenPart) × IsAlphabetRow row text
 
--- the digits of a range's lower limit, and those of its upper limit
-abbrev pub low_digits : List ℕ → List ℕ
-low_digits range = take_while is_ascii_digit range
-
+-- the digits of a range's upper limit, which stand behind those of the lower one and the hyphen
 abbrev pub high_digits : List ℕ → List ℕ
-high_digits range = drop (length (low_digits range) + 1) range
+high_digits range = drop (length (leading_digits range) + 1) range
 
 -- the limits that are told behind an item: 0 to 10,000 where there is no range
 abbrev pub limit_of_tail : List ℕ → Limit
 limit_of_tail [] = record { low = 0; high = MAX_COUNT }
 limit_of_tail (digit ∷ more) =
-    record { low = digits_value 10 (low_digits (digit ∷ more)); high = digits_value 10 (high_digits (digit ∷ more)) }
+    record {
+      low = digits_value 10 (leading_digits (digit ∷ more));
+      high = digits_value 10 (high_digits (digit ∷ more));
+    }

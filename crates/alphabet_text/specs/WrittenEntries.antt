@@ -2,6 +2,8 @@
 use Rattle.std.specs.Prelude.{ℕ, ◌+◌, Bool, nat_lt, min, List, [], ◌∷◌, ◌++◌, length, if◌then◌else◌}
 use Rattle.std.specs.Prelude.{Option, Some, None, Result, Ok, Err, Vec, unwrap_or}
 use Rattle.std.specs.List.{list_any}
+use Rattle.std.specs.Option.{option_or}
+use Rattle.fixed_decimal.specs.Decimal.{leading_digits}
 use Rattle.decompose.specs.declared.limits.Limit.{Limit}
 use Rattle.element_table.specs.declared.element.Isotope.{Isotope}
 use Rattle.decompose.specs.declared.limits.TheConstants.{MAX_COUNT}
@@ -17,11 +19,11 @@ use Rattle.alphabet_text.specs.declared.fault.AlphabetFault.{AlphabetFault}
 use Rattle.alphabet_text.specs.declared.fault.AlphabetFault.TheVariants as fault
 use Rattle.alphabet_text.specs.declared.written.WrittenEntry.{WrittenEntry}
 use Rattle.alphabet_text.specs.declared.written.WrittenRange.{WrittenRange}
-use Rattle.alphabet_text.specs.AlphabetTexts.{limit_of_tail, low_digits}
+use Rattle.alphabet_text.specs.AlphabetTexts.{limit_of_tail}
 
 -- a limit, of which a number above 10,000 is told as 10,001
-abbrev pub capped : Limit → Limit
-capped limit = record { low = min limit.low (MAX_COUNT + 1); high = min limit.high (MAX_COUNT + 1) }
+abbrev pub limit_value : Limit → Limit
+limit_value limit = record { low = min limit.low (MAX_COUNT + 1); high = min limit.high (MAX_COUNT + 1) }
 
 -- the place of the first limit above 10,000, of limits at these places
 abbrev pub high_place : Limit → ℕ → ℕ → Option ℕ
@@ -32,8 +34,8 @@ high_place limit low_at high_at =
 abbrev pub range_value : ℕ → List ℕ → WrittenRange
 range_value at tail =
     record {
-      limit = capped (limit_of_tail tail);
-      high_place = high_place (capped (limit_of_tail tail)) at (at + length (low_digits tail) + 1);
+      limit = limit_value (limit_of_tail tail);
+      high_place = high_place (limit_value (limit_of_tail tail)) at (at + length (leading_digits tail) + 1);
       byte_count = length tail;
     }
 
@@ -69,28 +71,23 @@ abbrev pub answer_items : {X Z : Type 0} → Result (Vec X Z) AlphabetFault → 
 answer_items (Ok v) = Ok v.items
 answer_items (Err fault) = Err fault
 
--- the first one there is
-abbrev pub or_next : Option ℕ → Option ℕ → Option ℕ
-or_next None next = next
-or_next (Some place) next = Some place
-
 -- the place of the first limit above 10,000 of several entries
 abbrev pub first_high_place : List WrittenEntry → Option ℕ
 first_high_place [] = None
-first_high_place (entry ∷ entries) = or_next entry.range.high_place (first_high_place entries)
+first_high_place (entry ∷ entries) = option_or entry.range.high_place (first_high_place entries)
 
 -- of an element the isotope of this number, or its reference isotope where no number is told
 abbrev pub isotope_with : ElementEntry → Option ℕ → Option Isotope
 isotope_with element None = Some (reference_isotope element)
 isotope_with element (Some number) = isotope_of element.isotopes number
 
-abbrev pub isotope_told : Option ElementEntry → Option ℕ → Option Isotope
-isotope_told None number = None
-isotope_told (Some element) number = isotope_with element number
+abbrev pub isotope_or_none : Option ElementEntry → Option ℕ → Option Isotope
+isotope_or_none None number = None
+isotope_or_none (Some element) number = isotope_with element number
 
 -- the isotope of the atoms of an item that a reader tells
-abbrev pub told_isotope : TableEntries → LeadingItem → Option Isotope
-told_isotope table item = isotope_told (element_of table item.symbol) item.number
+abbrev pub leading_isotope : TableEntries → LeadingItem → Option Isotope
+leading_isotope table item = isotope_or_none (element_of table item.symbol) item.number
 
 abbrev pub entry_with : Item → Limit → Option Isotope → Option AlphabetEntry
 entry_with item limit None = None
@@ -100,7 +97,7 @@ entry_with item limit (Some isotope) = Some (record { item = item; mass = isotop
 abbrev pub table_entry : TableEntries → WrittenEntry → Option AlphabetEntry
 table_entry table written =
     entry_with (record { symbol = written.item.symbol; label = unwrap_or written.item.number 0 }) written.range.limit
-    (told_isotope table written.item)
+    (leading_isotope table written.item)
 
 -- whether an item stands among entries
 abbrev pub has_item : List AlphabetEntry → Item → Bool
@@ -118,7 +115,8 @@ abbrev pub entry_behind : TableEntries → List AlphabetEntry → WrittenEntry �
 entry_behind table earlier written = sound_entry earlier written.at (table_entry table written)
 
 -- these entries and those that are written behind them, or the first fault
-abbrev pub gathered : TableEntries → List AlphabetEntry → List WrittenEntry → Result (List AlphabetEntry) AlphabetFault
-gathered table earlier [] = Ok earlier
-gathered table earlier (written ∷ entries) =
-    entry_behind table earlier written >>= λ entry. gathered table (earlier ++ entry ∷ []) entries
+abbrev pub entries_behind : TableEntries → List AlphabetEntry → List WrittenEntry
+    → Result (List AlphabetEntry) AlphabetFault
+entries_behind table earlier [] = Ok earlier
+entries_behind table earlier (written ∷ entries) =
+    entry_behind table earlier written >>= λ entry. entries_behind table (earlier ++ entry ∷ []) entries

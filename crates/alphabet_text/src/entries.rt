@@ -6,8 +6,8 @@ ghost use Rattle.reader_answers.specs.Answers.{Gives};
 ghost use Rattle.alphabet_text.specs.AlphabetFaults.{is_memory};
 ghost use Rattle.decompose.specs.declared.limits.TheConstants.{MAX_COUNT};
 ghost use Rattle.alphabet_text.specs.Alphabets.{AreEntries, IsMassOfIsotope};
-ghost use Rattle.alphabet_text.specs.WrittenEntries.{entry_behind, gathered, has_item, answer_items};
-ghost use Rattle.alphabet_text.specs.WrittenEntries.{table_entry, told_isotope};
+ghost use Rattle.alphabet_text.specs.WrittenEntries.{entry_behind, entries_behind, has_item, answer_items};
+ghost use Rattle.alphabet_text.specs.WrittenEntries.{table_entry, leading_isotope};
 
 use crate::fault::AlphabetFault;
 use crate::written::WrittenEntry;
@@ -31,13 +31,13 @@ pub struct AlphabetEntry {
 }
 
 /// The entries of what is written, in the same order, or the first fault.
-pub(crate) fn gathered(
+pub(crate) fn entries_behind(
     alloc: Global,
     table: &Table,
     written: &[WrittenEntry],
 ) -> Result<Vec<AlphabetEntry>, AlphabetFault>
     requires { All (λ w. w.range.limit.high ≤ MAX_COUNT) written.now }
-    ensures entries { Gives is_memory (answer_items result) (gathered table.now [] written.now) }
+    ensures entries { Gives is_memory (answer_items result) (entries_behind table.now [] written.now) }
     ensures sound { IfOk result (λ v. AreEntries v.items) }
     ensures table { 0 < length written.now → IsTable table.now }
 {
@@ -89,7 +89,7 @@ fn table_entry(table: &Table, written: &WrittenEntry) -> Option<AlphabetEntry>
     ensures limit { IfSome result (λ e. e.limit ≡ written.now.range.limit) }
     ensures table { IsTable table.now }
 {
-    let isotope = told_isotope(table, &written.item)?;
+    let isotope = leading_isotope(table, &written.item)?;
     Some(AlphabetEntry {
         item: Item {
             symbol: written.item.symbol,
@@ -101,8 +101,8 @@ fn table_entry(table: &Table, written: &WrittenEntry) -> Option<AlphabetEntry>
 }
 
 /// The isotope of an item's atoms: the one in brackets, or the element's reference isotope.
-fn told_isotope<'t>(table: &'t Table, item: &LeadingItem) -> Option<&'t Isotope>
-    ensures isotope { option_copied result ≡ told_isotope table.now item.now }
+fn leading_isotope<'t>(table: &'t Table, item: &LeadingItem) -> Option<&'t Isotope>
+    ensures isotope { option_copied result ≡ leading_isotope table.now item.now }
     ensures within { IfSome result (λ i. IsMassOfIsotope i.now.mass) }
     ensures table { IsTable table.now }
 {

@@ -9,7 +9,7 @@ ghost use Rattle.alphabet_text.specs.AlphabetAnswers.{alphabet_of};
 ghost use Rattle.alphabet_text.specs.Alphabets.{IsEntryOf};
 
 use crate::alphabet::Alphabet;
-use crate::entries::{MAX_ENTRIES, gathered};
+use crate::entries::{MAX_ENTRIES, entries_behind};
 use crate::fault::AlphabetFault;
 use crate::order::in_order;
 use crate::written::{first_high_place, read_entries};
@@ -39,7 +39,7 @@ pub fn read_alphabet(alloc: Global, table: &Table, text: &[u8]) -> Result<Alphab
             place: place as u64,
         });
     }
-    let entries = gathered(alloc, table, &written)?;
+    let entries = entries_behind(alloc, table, &written)?;
     if entries.len() > MAX_ENTRIES {
         return Err(AlphabetFault::TooMany);
     }

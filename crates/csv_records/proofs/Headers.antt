@@ -24,11 +24,6 @@ of_first : (names : List (List ℕ)) (records : List (List (List ℕ))) (b : Boo
 of_first names [] b some is = absurd (omega arith)
 of_first names (record_1 ∷ records) b some is = sym is
 
-pub no_record : (names : List (List ℕ)) (records : List (List (List ℕ))) → length records ≡ 0
-    → false ≡ has_header names records
-no_record names [] none = refl
-no_record names (record_1 ∷ records) none = absurd (omega arith)
-
 -- all fields are the names
 pub same_fields : (names : List (List ℕ)) (records : List (List (List ℕ))) → 0 < length records
     → length (get_or records 0 []) ≡ length names

@@ -8,7 +8,6 @@ use Rattle.element_table.specs.TableRows.{Row, is_electron, fault_after, table_o
 use Rattle.element_table.specs.TableText.{abundance_decimals, table_of_records, row_of}
 use Rattle.element_table.specs.Gathering.{nothing_gathered, gather_from, fault_in}
 use Rattle.element_table.specs.declared.fault.TableFault.{TableFault}
-use Rattle.element_table.specs.declared.fault.TableFault.TheVariants as fault
 use Rattle.element_table.proofs.RowsOfSymbols.{IsRow, AreRows}
 use Rattle.element_table.proofs.GatheredRows.{gathered_of, gathered_of-push}
 use Rattle.element_table.proofs.FaultAfterRows.{fault_after-gathered, fault_after-new}
@@ -90,8 +89,3 @@ gather_from-rows_after decimals record_number rows (fields ∷ records) are =
 pub table_of_records-rows : (records : List (List (List ℕ))) (decimals : ℕ) → abundance_decimals records ≡ Some decimals
     → table_of_records records ≡ gather_from decimals 2 nothing_gathered (drop 1 records)
 table_of_records-rows records decimals is = rw is (sym (gather_from-rows_after decimals 2 [] (drop 1 records) tt))
-
--- and of those that don't
-pub table_of_records-no_header : (records : List (List (List ℕ))) → abundance_decimals records ≡ None
-    → table_of_records records ≡ Err (fault.Header 1)
-table_of_records-no_header records none = rw none refl

@@ -10,7 +10,8 @@ use Rattle.element_table.specs.Elements.{ElementEntry, TableEntries, IsElement, 
 use Rattle.element_table.specs.Elements.{reference_isotope, total_weight}
 use Rattle.element_table.specs.ReadRow.{AreTracerRows}
 use Rattle.element_table.specs.Tracers.{DifferInWeights, is_named, is_of_isotope, is_weightless_by, traced_element}
-use Rattle.element_table.specs.Tracers.{traced_elements, traced_isotope, tracer_weight, unweighted, unweighted_element}
+use Rattle.element_table.specs.Tracers.{traced_elements, traced_isotope, tracer_weight, unweighted_isotope}
+use Rattle.element_table.specs.Tracers.{unweighted_element}
 use Rattle.element_table.specs.declared.element.Isotope.{Isotope}
 use Rattle.element_table.specs.declared.tracer.TracerRow.{TracerRow}
 use Rattle.element_table.proofs.Weights.{find-none}
@@ -119,31 +120,32 @@ IsTable-traced rows t are is none = record {
         is.distinct i j d before within (sym first ∙ same ∙ second)
 
 -- but for its weight an isotope stays the same
-unweighted-at : (rows : List TracerRow) (symbol : List ℕ) (isotopes : List Isotope) (k : ℕ)
-    → unweighted (isotope_at (map (traced_isotope rows symbol) isotopes) k) ≡ unweighted (isotope_at isotopes k)
-unweighted-at rows symbol [] k = refl
-unweighted-at rows symbol (i ∷ isotopes) zero = refl
-unweighted-at rows symbol (i ∷ isotopes) (suc k) = unweighted-at rows symbol isotopes k
+unweighted_isotope-at : (rows : List TracerRow) (symbol : List ℕ) (isotopes : List Isotope) (k : ℕ)
+    → unweighted_isotope (isotope_at (map (traced_isotope rows symbol) isotopes) k)
+    ≡ unweighted_isotope (isotope_at isotopes k)
+unweighted_isotope-at rows symbol [] k = refl
+unweighted_isotope-at rows symbol (i ∷ isotopes) zero = refl
+unweighted_isotope-at rows symbol (i ∷ isotopes) (suc k) = unweighted_isotope-at rows symbol isotopes k
 
 -- and so does an element
-unweighted-traced_element : (rows : List TracerRow) (e : ElementEntry)
+unweighted_isotope-traced_element : (rows : List TracerRow) (e : ElementEntry)
     → unweighted_element (traced_element rows e) ≡ unweighted_element e
-unweighted-traced_element rows e = by (is_named rows e.symbol) refl
+unweighted_isotope-traced_element rows e = by (is_named rows e.symbol) refl
   where
     by : (b : Bool) → is_named rows e.symbol ≡ b → unweighted_element (traced_element rows e) ≡ unweighted_element e
     by true named =
         rw named (ap (λ (is : List Isotope). record e { isotopes = is })
-        (map-map unweighted (traced_isotope rows e.symbol) e.isotopes))
+        (map-map unweighted_isotope (traced_isotope rows e.symbol) e.isotopes))
     by false other = rw other refl
 
 -- its reference isotope among the rest
-unweighted-reference : (rows : List TracerRow) (e : ElementEntry)
-    → unweighted (reference_isotope (traced_element rows e)) ≡ unweighted (reference_isotope e)
-unweighted-reference rows e = by (is_named rows e.symbol) refl
+unweighted_isotope-reference : (rows : List TracerRow) (e : ElementEntry)
+    → unweighted_isotope (reference_isotope (traced_element rows e)) ≡ unweighted_isotope (reference_isotope e)
+unweighted_isotope-reference rows e = by (is_named rows e.symbol) refl
   where
     by : (b : Bool) → is_named rows e.symbol ≡ b
-        → unweighted (reference_isotope (traced_element rows e)) ≡ unweighted (reference_isotope e)
-    by true named = rw named (unweighted-at rows e.symbol e.isotopes e.reference)
+        → unweighted_isotope (reference_isotope (traced_element rows e)) ≡ unweighted_isotope (reference_isotope e)
+    by true named = rw named (unweighted_isotope-at rows e.symbol e.isotopes e.reference)
     by false other = rw other refl
 
 -- what a function leaves the same in each element, it leaves the same in all
@@ -157,8 +159,8 @@ pub DifferInWeights-traced : (rows : List TracerRow) (t : TableEntries)
     → DifferInWeights t (record t { elements = traced_elements rows t.elements })
 DifferInWeights-traced rows t = record {
   electron = refl;
-  elements = map-same (traced_element rows) unweighted_element (unweighted-traced_element rows) t.elements;
+  elements = map-same (traced_element rows) unweighted_element (unweighted_isotope-traced_element rows) t.elements;
   references =
-      map-same (traced_element rows) (λ (e : ElementEntry). unweighted (reference_isotope e))
-      (unweighted-reference rows) t.elements;
+      map-same (traced_element rows) (λ (e : ElementEntry). unweighted_isotope (reference_isotope e))
+      (unweighted_isotope-reference rows) t.elements;
 }

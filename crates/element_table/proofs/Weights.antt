@@ -4,7 +4,7 @@ use Rattle.std.proofs.Common.{All, Some, None, refl, arith}
 use Rattle.std.proofs.lemmas.Bool.{eqb-false}
 use Rattle.element_table.specs.Limits.{min_electron_mass, max_electron_mass}
 use Rattle.element_table.specs.Elements.{ElementEntry, IsTable, total_weight}
-use Rattle.element_table.specs.TableRows.{weightless}
+use Rattle.element_table.specs.TableRows.{weightless_element}
 use Rattle.element_table.specs.Gathering.{AreElements}
 
 -- where none is found, none passes
@@ -19,7 +19,7 @@ find-none p (x ∷ xs) none k d below = by (p x) refl (λ rest j within. find-no
     by false fails others (suc k) below = others (rw fails at none) k (omega arith)
 
 -- where no element is without weight, each has some
-weighted-from_none : (es : List ElementEntry) → weightless es ≡ None → All (λ e. 0 < total_weight e.isotopes) es
+weighted-from_none : (es : List ElementEntry) → weightless_element es ≡ None → All (λ e. 0 < total_weight e.isotopes) es
 weighted-from_none es none k d below =
     let weight = eqb-false _ 0 (find-none (λ (e : ElementEntry). total_weight e.isotopes == 0) es none k d below) in
     omega (arith, weight)
@@ -27,7 +27,8 @@ weighted-from_none es none k d below =
 -- a table of the electron and elements that have been gathered, where none is without weight
 pub IsTable-from_weighted : (electron : ℕ) (elements : List ElementEntry)
     → (min_electron_mass ≤ electron) × (electron ≤ max_electron_mass)
-    → AreElements elements → weightless elements ≡ None → IsTable (record { electron = electron; elements = elements })
+    → AreElements elements → weightless_element elements ≡ None
+    → IsTable (record { electron = electron; elements = elements })
 IsTable-from_weighted electron elements within are none = record {
   electron_from = within.0;
   electron_to = within.1;

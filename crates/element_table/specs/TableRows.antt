@@ -84,12 +84,12 @@ abbrev pub electron_of : List Row → Option ℕ
 electron_of rows = option_map (λ row. row.mass) (find (λ row. is_electron row.symbol) rows)
 
 -- the first element of which no isotope occurs
-abbrev pub weightless : List ElementEntry → Option ElementEntry
-weightless elements = find (λ e. total_weight e.isotopes == 0) elements
+abbrev pub weightless_element : List ElementEntry → Option ElementEntry
+weightless_element elements = find (λ e. total_weight e.isotopes == 0) elements
 
 -- the fault of the first element of which no isotope occurs
 abbrev pub weight_fault : List ElementEntry → Option TableFault
-weight_fault elements = option_map (λ e. fault.NoWeight e.symbol) (weightless elements)
+weight_fault elements = option_map (λ e. fault.NoWeight e.symbol) (weightless_element elements)
 
 -- the table of an electron, if there is one, and elements, unless one has no weight
 abbrev pub table_from : Option ℕ → List ElementEntry → Result TableEntries TableFault

@@ -95,16 +95,16 @@ abbrev pub traced : TableEntries → List ℕ → Result TableEntries TracerFaul
 traced table bytes = tracer_rows table (file_records bytes) >>= traced_by table
 
 -- an isotope without its weight
-abbrev pub unweighted : Isotope → Isotope
-unweighted isotope = record { number = isotope.number; mass = isotope.mass; weight = 0 }
+abbrev pub unweighted_isotope : Isotope → Isotope
+unweighted_isotope isotope = record { number = isotope.number; mass = isotope.mass; weight = 0 }
 
 -- an element without the weights of its isotopes
 abbrev pub unweighted_element : ElementEntry → ElementEntry
-unweighted_element e = record e { isotopes = map unweighted e.isotopes }
+unweighted_element e = record e { isotopes = map unweighted_isotope e.isotopes }
 
 -- its reference isotope without its weight
 abbrev pub unweighted_reference : ElementEntry → Isotope
-unweighted_reference e = unweighted (reference_isotope e)
+unweighted_reference e = unweighted_isotope (reference_isotope e)
 
 -- two tables differ in weights alone: each element has its symbol, its valence, its isotopes' mass numbers and masses,
 -- and its reference isotope stays the same

@@ -10,7 +10,7 @@ use thiserror::Error;
 
 /// Why the bytes of a table file are refused: the first fault in the order of the records, and in a
 /// record the first of the order below; `row` is the record's number, the header being record 1.
-#[derive(Debug, Drop, Error)]
+#[derive(Clone, Copy, Debug, PartialEq, Eq, Error)]
 pub enum TableFault {
     /// The first record isn't `symbol,number,mass,abundance,valence` nor `symbol,number,mass,abundance12,valence`, or
     /// there is none.

@@ -5,7 +5,7 @@ ghost use Rattle.std.specs.Option.{option_copied};
 ghost use Rattle.std.specs.Str.{bytes_eq};
 ghost use Rattle.indexmap.specs.IndexMap.{keys, values};
 ghost use Rattle.element_table.specs.Elements.{IsElement, IsTable};
-ghost use Rattle.element_table.specs.TableRows.{table_from, weightless};
+ghost use Rattle.element_table.specs.TableRows.{table_from, weightless_element};
 ghost use Rattle.reader_answers.specs.Answers.{Gives, GivesAs, unless_fault};
 ghost use Rattle.element_table.specs.TableFaults.{is_memory};
 ghost use Rattle.element_table.specs.Gathering.{IsIsotopeRow, IsTableRow, AreElements, fault_in, row_entry, with_row};
@@ -81,7 +81,7 @@ impl Gathered {
         let Gathered { electron, elements } = self;
         let electron = electron.ok_or(TableFault::NoElectron)?;
         let elements: Vec<Element> = elements.into_values().collect(alloc)?;
-        match weightless(&elements) {
+        match weightless_element(&elements) {
             Some(element) => Err(TableFault::NoWeight {
                 symbol: element.symbol(),
             }),
@@ -91,8 +91,8 @@ impl Gathered {
 }
 
 /// The first element of which no isotope occurs.
-fn weightless(elements: &[Element]) -> Option<&Element>
-    ensures { option_copied result ≡ weightless elements.now }
+fn weightless_element(elements: &[Element]) -> Option<&Element>
+    ensures { option_copied result ≡ weightless_element elements.now }
 {
     elements.iter().find(|element| element.total() == 0)
 }

@@ -84,7 +84,7 @@ impl Table {
         let records = Records::read(self.allocator(), bytes)?;
         let rows = tracer::read_rows(self, &records)?;
         let elements = tracer::traced_elements(&rows, &self.elements)?;
-        match tracer::weightless(&rows, &elements) {
+        match tracer::weightless_element(&rows, &elements) {
             Some(element) => Err(TracerFault::NoWeight {
                 symbol: element.symbol(),
             }),

@@ -227,7 +227,10 @@ fn traced_element(rows: &[TracerRow], element: &Element) -> Result<Element, Allo
 }
 
 /// The first element that the rows have and that has no weight.
-pub(crate) fn weightless<'a>(rows: &[TracerRow], elements: &'a [Element]) -> Option<&'a Element>
+pub(crate) fn weightless_element<'a>(
+    rows: &[TracerRow],
+    elements: &'a [Element],
+) -> Option<&'a Element>
     ensures { option_copied result ≡ find (is_weightless_by rows.now) elements.now }
 {
     elements.iter().find(|element| is_named(rows, element.symbol()) && element.total() == 0)

@@ -10,7 +10,7 @@ use thiserror::Error;
 
 /// Why the bytes of a tracer file are refused: the first fault in the order of the records, and in a
 /// record the first of the order below; `row` is the record's number, the header being record 1.
-#[derive(Debug, Drop, Error)]
+#[derive(Clone, Copy, Debug, PartialEq, Eq, Error)]
 pub enum TracerFault {
     /// The first record isn't `symbol,number,abundance12`, or there is none.
     #[error("record {row}: the header isn't `symbol,number,abundance12`")]

@@ -143,12 +143,6 @@ whole_within-range low high text n is =
     let its = whole_within-digits low high text n is in
     (its.0, its.3)
 
--- or its value in a range
-pub decimal_within-some : (D low high : ℕ) (text : List ℕ) (o : Option ℕ) → o ≡ decimal_within D low high text
-    → IfSome o (λ units. DecimalReading D high text (Ok units))
-decimal_within-some D low high text o is =
-    IfSome-from o _ (λ n some. (decimal_within-reading D low high text n (sym is ∙ some)).1)
-
 pub decimal_within-none : (D low high : ℕ) (text : List ℕ) (o : Option ℕ) → o ≡ decimal_within D low high text
     → IsNone o ↔ ¬ ((units : ℕ) × (low ≤ units) × DecimalReading D high text (Ok units))
 decimal_within-none D low high text o is =

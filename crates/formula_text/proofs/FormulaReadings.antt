@@ -3,7 +3,7 @@ use Rattle.std.proofs.Common.{◌≡◌, ℕ, ◌+◌, ◌^◌, ◌<◌, Bool, t
 use Rattle.std.proofs.Common.{sym, ap, subst, ◌∙◌, arith, length-append}
 use Rattle.std.specs.Prelude.{Option, Some, None, Result, Ok, Err, is_some, IsTrue}
 use Rattle.std.specs.List.{AllByRecursion}
-use Rattle.std.specs.Option.{option_map_or}
+use Rattle.std.specs.Option.{option_or, option_map_or}
 use Rattle.std.specs.Str.Parse.{digits_value}
 use Rattle.std.proofs.lemmas.Bool.{false≢true, and_parts, ltb-true}
 use Rattle.std.proofs.lemmas.List.Elements.{All-from_recursion, recursion_from_All}
@@ -16,6 +16,7 @@ use Rattle.written_items.specs.WrittenRows.{WrittenPart, part_text, row_text, Is
 use Rattle.written_items.specs.RowReading.{row_of, count_tail}
 use Rattle.written_items.proofs.RowLaws.{row_of-Ok, row_of-Err, row_of-written}
 use Rattle.written_items.proofs.CountTails.{counts-read}
+use Rattle.reader_answers.specs.Answers.{unless_fault}
 use Rattle.formula_text.specs.declared.fault.PartsFault.{PartsFault}
 use Rattle.formula_text.specs.declared.fault.FormulaFault.{FormulaFault}
 use Rattle.formula_text.specs.declared.fault.PartsFault.TheVariants as limit
@@ -25,7 +26,7 @@ use Rattle.formula_text.specs.Formulas.{IsItem, IsParts, IsFormula, sum_of, part
 use Rattle.formula_text.specs.Formulas.{has_many_items}
 use Rattle.formula_text.specs.Masses.{item_isotope, isotope_if}
 use Rattle.formula_text.specs.FormulaTexts.{Answer, counts_of, has_written, RowSums, IsFirstUnknown, FormulaReading}
-use Rattle.formula_text.specs.FormulaReader.{formula_or_fault, fault_or, first_fault, item_fault, row_fault, row_answer}
+use Rattle.formula_text.specs.FormulaReader.{formula_or_fault, item_fault, row_fault, row_answer}
 use Rattle.formula_text.specs.FormulaReader.{read_of}
 use Rattle.formula_text.proofs.SumFolds.{sum_of-items}
 use Rattle.formula_text.proofs.SumLimits.{same_sums, sum_of-AreSums, sum_of-IsParts, within}
@@ -76,7 +77,7 @@ pub known-row_fault : (table : TableEntries) (at : ℕ) (row : List WrittenPart)
     → row_fault table at row ≡ None
 known-row_fault table at [] h = refl
 known-row_fault table at (part ∷ row) h =
-    ap (λ f. first_fault f (row_fault table (at + length (part_text part)) row))
+    ap (λ f. option_or f (row_fault table (at + length (part_text part)) row))
     (known-item_fault table at part.item h.0)
     ∙ known-row_fault table (at + length (part_text part)) row h.1
 
@@ -99,7 +100,7 @@ pub row_fault-known : (table : TableEntries) (at : ℕ) (row : List WrittenPart)
 row_fault-known table at [] e = tt
 row_fault-known table at (part ∷ row) e =
     elim (item_fault table at part.item) as (λ o. item_fault table at part.item
-    ≡ o → first_fault o (row_fault table (at + length (part_text part)) row) ≡ None
+    ≡ o → option_or o (row_fault table (at + length (part_text part)) row) ≡ None
     → AllByRecursion (Known table) (part ∷ row)) [
       | Some f ↦ λ is e. cc
       | None ↦ λ is e. (
@@ -122,7 +123,7 @@ first_unknown : (table : TableEntries) (at : ℕ) (row : List WrittenPart) (faul
 first_unknown table at [] fault e = cc
 first_unknown table at (part ∷ row) fault e =
     elim (item_fault table at part.item) as (λ o. item_fault table at part.item
-    ≡ o → first_fault o (row_fault table (at + length (part_text part)) row) ≡ Some fault
+    ≡ o → option_or o (row_fault table (at + length (part_text part)) row) ≡ Some fault
     → Unknown table at (part ∷ row) fault) [
       | Some f ↦ λ is e.
           let here : at + 0 ≡ at = omega arith in
@@ -155,13 +156,13 @@ unknown-row_fault : (table : TableEntries) (at : ℕ) (before behind : List Writ
     → row_fault table at (before ++ (part ∷ behind)) ≡ Some fault
 unknown-row_fault table at [] behind part fault known e =
     let here : at ≡ at + 0 = omega arith in
-    ap (λ f. first_fault f (row_fault table (at + length (part_text part)) behind))
+    ap (λ f. option_or f (row_fault table (at + length (part_text part)) behind))
     (ap (λ n. item_fault table n part.item) here ∙ e)
 unknown-row_fault table at (first ∷ before) behind part fault known e =
     let len = length-append (part_text first) (row_text before) in
     let here : at + length (part_text first) + length (row_text before) ≡ at + length (row_text (first ∷ before)) =
     omega (arith, len) in
-    ap (λ f. first_fault f (row_fault table (at + length (part_text first)) (before ++ (part ∷ behind))))
+    ap (λ f. option_or f (row_fault table (at + length (part_text first)) (before ++ (part ∷ behind))))
     (known-item_fault table at first.item known.0)
     ∙ unknown-row_fault table (at + length (part_text first)) before behind part fault known.1
     (ap (λ n. item_fault table n part.item) here ∙ e)
@@ -253,7 +254,7 @@ row_meaning : (table : TableEntries) (text : List ℕ) (row : List WrittenPart) 
     → FormulaReading table text (row_answer table (Ok row))
 row_meaning table text row is =
     elim (row_fault table 0 row) as (λ o. row_fault table 0 row
-    ≡ o → FormulaReading table text (fault_or o (formula_or_fault (parts_of (counts_of row))))) [
+    ≡ o → FormulaReading table text (unless_fault o (formula_or_fault (parts_of (counts_of row))))) [
       | Some fault ↦ λ e. fault_meaning table text row fault is (first_unknown table 0 row fault e)
       | None ↦ λ e.
           let known = row_fault-known table 0 row e in
@@ -289,7 +290,7 @@ known_answer : (table : TableEntries) (text : List ℕ) (sums : List (Item × �
     → read_of table text ≡ formula_or_fault (within_limits sums)
 known_answer table text sums of_row =
     read_of-row table text of_row.row of_row.is
-    ∙ ap (λ o. fault_or o (formula_or_fault (parts_of (counts_of of_row.row))))
+    ∙ ap (λ o. unless_fault o (formula_or_fault (parts_of (counts_of of_row.row))))
     (known-row_fault table 0 of_row.row (recursion_from_All (Known table) of_row.row of_row.known))
     ∙ ap (λ s. formula_or_fault (within_limits s)) (sym (same_sums (counts_of of_row.row) sums of_row.are_sums))
 
@@ -308,7 +309,7 @@ unknown_answer table text place item fault unknown e =
     let part : WrittenPart = record { item = item; tail = unknown.tail } in
     let here : 0 + length (row_text unknown.before) ≡ place = omega (arith, unknown.here) in
     read_of-row table text (unknown.before ++ (part ∷ unknown.behind)) unknown.is
-    ∙ ap (λ o. fault_or o (formula_or_fault (parts_of (counts_of (unknown.before ++ (part ∷ unknown.behind))))))
+    ∙ ap (λ o. unless_fault o (formula_or_fault (parts_of (counts_of (unknown.before ++ (part ∷ unknown.behind))))))
     (unknown-row_fault table 0 unknown.before unknown.behind part fault
     (recursion_from_All (Known table) unknown.before unknown.known) (ap (λ n. item_fault table n item) here ∙ e))
 

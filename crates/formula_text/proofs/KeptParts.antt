@@ -2,7 +2,7 @@
 use Rattle.std.proofs.Common.{◌≡◌, ℕ, ◌+◌, ◌-◌, ◌^◌, ◌<◌, ◌≤◌, min, Bool, true, false, cond, ◌&&◌, ltb, eqb, List, []}
 use Rattle.std.proofs.Common.{◌∷◌, length, map, refl, sym, ap, subst, ◌∙◌, arith, inl, inr}
 use Rattle.std.specs.Prelude.{Option, Some, None, is_some, IsTrue, find, option_map, unwrap_or}
-use Rattle.std.specs.Option.{option_map_or}
+use Rattle.std.specs.Option.{option_or, option_map_or}
 use Rattle.std.specs.List.{AllByRecursion}
 use Rattle.std.specs.Str.{bytes_eq}
 use Rattle.std.specs.Str.Parse.{digits_value}
@@ -18,7 +18,7 @@ use Rattle.formula_text.specs.declared.fault.FormulaFault.{FormulaFault}
 use Rattle.formula_text.specs.declared.fault.FormulaFault.TheVariants.{UnknownSymbol, UnknownIsotope}
 use Rattle.formula_text.specs.Masses.{isotope_in, isotope_if, item_isotope}
 use Rattle.formula_text.specs.FormulaTexts.{counts_of, has_written}
-use Rattle.formula_text.specs.FormulaReader.{item_fault, row_fault, first_fault, capped, part_value, row_values}
+use Rattle.formula_text.specs.FormulaReader.{item_fault, row_fault, capped_part, part_value, row_values}
 use Rattle.formula_text.specs.FormulaReader.{value_part, value_fault_if, value_fault, values_fault}
 
 -- the isotopes of an element have mass numbers up to 400
@@ -50,8 +50,8 @@ has_capped e n = ltb 0 n && is_some (isotope_of e.isotopes n)
 abbrev has_label : ElementEntry → ℕ → Bool
 has_label e n = (ltb 0 n && ltb n (2 ^ 32)) && is_some (isotope_in e n)
 
-few-capped : (e : ElementEntry) (n : ℕ) → n < 2 ^ 32 - 1 → has_capped e (min n (2 ^ 32 - 1)) ≡ has_label e n
-few-capped e n h =
+few-capped_part : (e : ElementEntry) (n : ℕ) → n < 2 ^ 32 - 1 → has_capped e (min n (2 ^ 32 - 1)) ≡ has_label e n
+few-capped_part e n h =
     let same : min n (2 ^ 32 - 1) ≡ n = omega arith in
     let within : ltb n (2 ^ 32) ≡ true = lt-ltb n (2 ^ 32) (omega arith) in
     ap (has_capped e) same ∙ one e n ∙ ap (λ b. (ltb 0 n && b) && is_some (isotope_in e n)) (sym within)
@@ -81,9 +81,9 @@ no_isotope e n h many =
       | false ↦ λ _. refl
     ] refl
 
-many-capped : (e : ElementEntry) (n : ℕ) → IsElement e → 2 ^ 32 - 1 ≤ n
+many-capped_part : (e : ElementEntry) (n : ℕ) → IsElement e → 2 ^ 32 - 1 ≤ n
     → has_capped e (min n (2 ^ 32 - 1)) ≡ has_label e n
-many-capped e n h many =
+many-capped_part e n h many =
     let cap : min n (2 ^ 32 - 1) ≡ 2 ^ 32 - 1 = omega arith in
     let other : eqb n 0 ≡ false = ne_eqb n 0 (λ zero. absurd (omega (arith, many, zero))) in
     let label : is_some (isotope_in e n) ≡ false =
@@ -94,7 +94,7 @@ many-capped e n h many =
 
 same_capped : (e : ElementEntry) (n : ℕ) → IsElement e → has_capped e (min n (2 ^ 32 - 1)) ≡ has_label e n
 same_capped e n h =
-    elim (cases_lt n (2 ^ 32 - 1)) [ inl few ↦ few-capped e n few | inr many ↦ many-capped e n h many ]
+    elim (cases_lt n (2 ^ 32 - 1)) [ inl few ↦ few-capped_part e n few | inr many ↦ many-capped_part e n h many ]
 
 -- the fault of an item whose element is this
 abbrev fault_in : Option ElementEntry → ℕ → WrittenItem → Option FormulaFault
@@ -125,9 +125,9 @@ pub values_fault-row : (table : TableEntries) (at : ℕ) (row : List WrittenPart
     → values_fault table (row_values at row) ≡ row_fault table at row
 values_fault-row table at [] is = refl
 values_fault-row table at (part ∷ row) is =
-    ap (λ f. first_fault f (values_fault table (row_values (at + length (part_text part)) row)))
+    ap (λ f. option_or f (values_fault table (row_values (at + length (part_text part)) row)))
     (kept_item-fault table at part is)
-    ∙ ap (first_fault (item_fault table at part.item)) (values_fault-row table (at + length (part_text part)) row is)
+    ∙ ap (option_or (item_fault table at part.item)) (values_fault-row table (at + length (part_text part)) row is)
 
 -- a known item is kept
 known_label : (o : Option (List ℕ)) (s : List ℕ) → names_item (record { symbol = s; digits = o }) ≡ true
@@ -141,7 +141,7 @@ known_label (Some ds) s h =
 -- the items that are kept of a row that the table has are the row's, with capped counts
 pub value_parts-row : (table : TableEntries) (at : ℕ) (row : List WrittenPart)
     → AllByRecursion (λ part. IsTrue (has_written table part.item)) row
-    → map value_part (row_values at row) ≡ map capped (counts_of row)
+    → map value_part (row_values at row) ≡ map capped_part (counts_of row)
 value_parts-row table at [] known = refl
 value_parts-row table at (part ∷ row) known =
     let item = part.item in

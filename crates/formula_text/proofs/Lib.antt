@@ -1,7 +1,6 @@
 pub mod CappedCounts
 pub mod CarbonAmongCounts
 pub mod CountsInOrder
-pub mod Differences
 pub mod EqualCounts
 pub mod FormulaReadings
 pub mod HillOrderLaws

@@ -22,7 +22,7 @@ use Rattle.written_items.proofs.ByteKinds.{numeral-digits}
 use Rattle.written_items.proofs.CountTails.{counts-read}
 use Rattle.formula_text.specs.Formulas.{IsItem, IsFormula, count_in}
 use Rattle.formula_text.specs.Masses.{HasItems, item_isotope}
-use Rattle.formula_text.specs.PrintedText.{printed}
+use Rattle.formula_text.specs.PrintedText.{printed_text}
 use Rattle.formula_text.specs.FormulaTexts.{FormulaText, counts_of, has_written}
 use Rattle.formula_text.specs.FormulaReader.{read_of}
 use Rattle.formula_text.proofs.SumLimits.{same_sum}
@@ -121,17 +121,18 @@ counts-printed (p ∷ ps) is few =
     let label = label-value p.0.label is.0.label in
     λ i. (record { symbol = p.0.symbol; label = label i }, (count-tail p.1 few.0).1 i) ∷ counts-printed ps is.1 few.1 i
 
-text-printed : (f : List (Item × ℕ)) → printed f ≡ row_text (map printed_part f)
+text-printed : (f : List (Item × ℕ)) → printed_text f ≡ row_text (map printed_part f)
 text-printed [] = refl
 text-printed (p ∷ ps) =
-    ap (λ t. (t ++ count_text p.1) ++ printed ps) (sym (label-text p.0.label p.0.symbol))
+    ap (λ t. (t ++ count_text p.1) ++ printed_text ps) (sym (label-text p.0.label p.0.symbol))
     ∙ ap (λ t. (text_with (label_digits p.0.label) p.0.symbol ++ count_text p.1) ++ t) (text-printed ps)
 
 some_printed : (f : List (Item × ℕ)) → 0 < length f → 0 < length (map printed_part f)
 some_printed [] h = h
 some_printed (p ∷ ps) h = omega arith
 
-row-printed : (f : List (Item × ℕ)) → AreItems f → AreFew f → IsRowOf IsCountTail (map printed_part f) (printed f)
+row-printed : (f : List (Item × ℕ)) → AreItems f → AreFew f
+    → IsRowOf IsCountTail (map printed_part f) (printed_text f)
 row-printed f is few =
     record {
       parts = All-from_recursion (IsPart IsCountTail) (map printed_part f)
@@ -140,8 +141,8 @@ row-printed f is few =
     }
 
 -- the printed text of a formula is related to it
-pub printed-FormulaText : (f : List (Item × ℕ)) → IsFormula f → FormulaText (printed f) f
-printed-FormulaText f h =
+pub printed_text-FormulaText : (f : List (Item × ℕ)) → IsFormula f → FormulaText (printed_text f) f
+printed_text-FormulaText f h =
     let is = recursion_from_All (λ p. IsItem p.0) f h.parts.are_items in
     let few = recursion_from_All (λ p. p.1 ≤ 10000) f h.parts.few_of_each in
     record {
@@ -174,12 +175,12 @@ known-printed table (p ∷ ps) is known =
     )
 
 -- with a table that has its items the printed text of a formula is read as the formula
-pub read_of-printed : (table : TableEntries) (f : List (Item × ℕ)) → IsFormula f → HasItems table f
-    → read_of table (printed f) ≡ Ok f
-read_of-printed table f h known =
+pub read_of-printed_text : (table : TableEntries) (f : List (Item × ℕ)) → IsFormula f → HasItems table f
+    → read_of table (printed_text f) ≡ Ok f
+read_of-printed_text table f h known =
     let is = recursion_from_All (λ p. IsItem p.0) f h.parts.are_items in
     let few = recursion_from_All (λ p. p.1 ≤ 10000) f h.parts.few_of_each in
-    formula_answer table (printed f) f
+    formula_answer table (printed_text f) f
     (record {
       row = map printed_part f;
       is = row-printed f is few;

@@ -3,7 +3,7 @@ use Rattle.std.proofs.Common.{◌≡◌, ℕ, ◌+◌, ◌<◌, true, false, Lis
 use Rattle.std.proofs.Common.{arith}
 use Rattle.std.specs.Prelude.{Some, None, Result, Ok, Err, IfOk, MatchBool, ⊤, Bool}
 use Rattle.element_table.specs.Elements.{TableEntries, IsTable}
-use Rattle.reader_answers.specs.Answers.{Gives}
+use Rattle.reader_answers.specs.Answers.{unless_fault, Gives}
 use Rattle.written_items.specs.declared.item.Item.{Item}
 use Rattle.written_items.specs.WrittenRows.{WrittenPart}
 use Rattle.written_items.specs.RowReading.{row_of, count_tail}
@@ -16,9 +16,9 @@ use Rattle.formula_text.specs.Formulas.{formula_in, parts_of}
 use Rattle.formula_text.specs.Masses.{HasItems}
 use Rattle.formula_text.specs.FormulaFaults.{is_memory, is_parts_memory, fault_of}
 use Rattle.formula_text.specs.FormulaTexts.{Answer, FormulaReading, counts_of}
-use Rattle.formula_text.specs.FormulaReader.{formula_or_fault, fault_or, row_fault, row_answer, read_of, row_values}
+use Rattle.formula_text.specs.FormulaReader.{formula_or_fault, row_fault, row_answer, read_of, row_values}
 use Rattle.formula_text.specs.FormulaReader.{values_or_fault, values_fault, value_part}
-use Rattle.formula_text.proofs.CappedCounts.{parts_of-capped}
+use Rattle.formula_text.proofs.CappedCounts.{parts_of-capped_part}
 use Rattle.formula_text.proofs.KeptParts.{values_fault-row, value_parts-row}
 use Rattle.formula_text.proofs.FormulaReadings.{row_fault-known, reading-meaning}
 use Rattle.formula_text.proofs.KnownItems.{HasItems-read}
@@ -72,7 +72,7 @@ unknown_row table (Err place) parts fault e is unknown =
 unknown_row table (Ok row) parts fault e is unknown =
     let same : row_values 0 row ≡ parts = same_parts (row_values 0 row) parts (values_or_fault 0 (Ok row)) refl e in
     let agree = faults_agree table row (λ some. is (subst (λ (p : List ReadPart). 0 < length p) same some)) in
-    ap (λ o. fault_or o (formula_or_fault (parts_of (counts_of row)))) (sym agree ∙ ap (values_fault table) same
+    ap (λ o. unless_fault o (formula_or_fault (parts_of (counts_of row)))) (sym agree ∙ ap (values_fault table) same
     ∙ unknown)
 
 pub read_of-unknown : (table : TableEntries) (text : List ℕ) (parts : List ReadPart) (fault : FormulaFault)
@@ -91,8 +91,8 @@ known_row table (Ok row) parts e is known =
     let same : row_values 0 row ≡ parts = same_parts (row_values 0 row) parts (values_or_fault 0 (Ok row)) refl e in
     let agree = faults_agree table row (λ some. is (subst (λ (p : List ReadPart). 0 < length p) same some)) in
     let none : row_fault table 0 row ≡ None = sym agree ∙ ap (values_fault table) same ∙ known in
-    ap (λ o. fault_or o (formula_or_fault (parts_of (counts_of row)))) none
-    ∙ ap formula_or_fault (sym (parts_of-capped (counts_of row))
+    ap (λ o. unless_fault o (formula_or_fault (parts_of (counts_of row)))) none
+    ∙ ap formula_or_fault (sym (parts_of-capped_part (counts_of row))
     ∙ ap parts_of (sym (value_parts-row table 0 row (row_fault-known table 0 row none)) ∙ ap (map value_part) same))
 
 pub read_of-known : (table : TableEntries) (text : List ℕ) (parts : List ReadPart)

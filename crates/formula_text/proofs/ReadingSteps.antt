@@ -12,7 +12,7 @@ use Rattle.written_items.proofs.CountTails.{counts-read}
 use Rattle.formula_text.specs.declared.fault.FormulaFault.{FormulaFault}
 use Rattle.formula_text.specs.declared.fault.FormulaFault.TheVariants.{BadText}
 use Rattle.formula_text.specs.declared.read.ReadPart.{ReadPart}
-use Rattle.formula_text.specs.FormulaReader.{count_value, told_part, part_value, values_or_fault}
+use Rattle.formula_text.specs.FormulaReader.{count_value, part_answer, part_value, values_or_fault}
 
 -- parts before what is kept behind them
 abbrev pub values_before : List ReadPart → Result (List ReadPart) FormulaFault → Result (List ReadPart) FormulaFault
@@ -69,15 +69,15 @@ not_both : (told : LeadingItem × ℕ × ℕ) (bad : BadItem) (r : Result (Leadi
 not_both told bad r d e = cc
 
 told-is : (at : ℕ) (text : List ℕ) (told : LeadingItem × ℕ × ℕ) (r : Result WrittenPart ℕ) → 0 < length text
-    → leading_part count_tail text ≡ r → told_part r ≡ Ok told → NextPart at text told
+    → leading_part count_tail text ≡ r → part_answer r ≡ Ok told → NextPart at text told
 told-is at text told (Ok part) some read e =
     subst (NextPart at text) (same_told (item_value part.item, count_value part.tail, length (part_text part)) told
-    (told_part (Ok part)) refl e) (told-next at text part some read)
+    (part_answer (Ok part)) refl e) (told-next at text part some read)
 told-is at text told (Err place) some read e =
-    absurd (not_both told (record { at = place }) (told_part (Err place)) e refl)
+    absurd (not_both told (record { at = place }) (part_answer (Err place)) e refl)
 
 pub next_part : (at : ℕ) (text : List ℕ) (told : LeadingItem × ℕ × ℕ) → 0 < length text
-    → told_part (leading_part count_tail text) ≡ Ok told → NextPart at text told
+    → part_answer (leading_part count_tail text) ≡ Ok told → NextPart at text told
 next_part at text told some e = told-is at text told (leading_part count_tail text) some refl e
 
 -- or the place of bad text
@@ -86,18 +86,18 @@ pub record BadPart (at : ℕ) (text : List ℕ) (bad : BadItem) : Type 0 where
   pub fault : values_or_fault at (row_of count_tail text) ≡ Err (BadText (at + bad.at))
 
 bad-is : (at : ℕ) (text : List ℕ) (bad : BadItem) (r : Result WrittenPart ℕ) → 0 < length text
-    → leading_part count_tail text ≡ r → told_part r ≡ Err bad → BadPart at text bad
+    → leading_part count_tail text ≡ r → part_answer r ≡ Err bad → BadPart at text bad
 bad-is at text bad (Ok part) some read e =
     absurd (not_both (item_value part.item, count_value part.tail, length (part_text part)) bad
-    (told_part (Ok part)) refl e)
+    (part_answer (Ok part)) refl e)
 bad-is at text bad (Err place) some read e =
-    let same = same_bad (record { at = place }) bad (told_part (Err place)) refl e in
+    let same = same_bad (record { at = place }) bad (part_answer (Err place)) refl e in
     let row : row_of count_tail text ≡ Err place = read_next text some ∙ ap (row_or count_tail text) read in
     let here = row_of-Err IsCountTail count_tail counts-read text place row in
     subst (BadPart at text) same (record { within = here.within; fault = ap (values_or_fault at) row })
 
 pub bad_part : (at : ℕ) (text : List ℕ) (bad : BadItem) → 0 < length text
-    → told_part (leading_part count_tail text) ≡ Err bad → BadPart at text bad
+    → part_answer (leading_part count_tail text) ≡ Err bad → BadPart at text bad
 bad_part at text bad some e = bad-is at text bad (leading_part count_tail text) some refl e
 
 -- no part is left at the end

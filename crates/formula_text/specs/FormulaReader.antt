@@ -2,6 +2,8 @@
 -- layers above compute with it.
 use Rattle.std.specs.Prelude.{ℕ, ◌+◌, ◌-◌, ◌^◌, min, nat_lt, ◌&&◌, List, [], ◌∷◌, length, is_some, if◌then◌else◌}
 use Rattle.std.specs.Prelude.{Option, Some, None, Result, Ok, Err, unwrap_or}
+use Rattle.std.specs.Option.{option_or}
+use Rattle.reader_answers.specs.Answers.{unless_fault}
 use Rattle.written_items.specs.declared.item.Item.{Item}
 use Rattle.written_items.specs.declared.item.LeadingItem.{LeadingItem}
 use Rattle.written_items.specs.declared.item.BadItem.{BadItem}
@@ -23,16 +25,6 @@ formula_or_fault (Ok []) = Err Empty
 formula_or_fault (Ok (p ∷ ps)) = Ok (p ∷ ps)
 formula_or_fault (Err e) = Err (fault_of e)
 
--- a fault if there is one, and else the answer
-abbrev pub fault_or : Option FormulaFault → Answer → Answer
-fault_or (Some fault) answer = Err fault
-fault_or None answer = answer
-
--- the first of two faults
-abbrev pub first_fault : Option FormulaFault → Option FormulaFault → Option FormulaFault
-first_fault (Some fault) other = Some fault
-first_fault None other = other
-
 -- the fault of an item at a place that the table doesn't have
 abbrev pub item_fault : TableEntries → ℕ → WrittenItem → Option FormulaFault
 item_fault table at item =
@@ -43,20 +35,20 @@ item_fault table at item =
 abbrev pub row_fault : TableEntries → ℕ → List WrittenPart → Option FormulaFault
 row_fault table at [] = None
 row_fault table at (part ∷ row) =
-    first_fault (item_fault table at part.item) (row_fault table (at + length (part_text part)) row)
+    option_or (item_fault table at part.item) (row_fault table (at + length (part_text part)) row)
 
 -- the answer to a row, or to the place of bad text
 abbrev pub row_answer : TableEntries → Result (List WrittenPart) ℕ → Answer
 row_answer table (Err place) = Err (BadText place)
-row_answer table (Ok row) = fault_or (row_fault table 0 row) (formula_or_fault (parts_of (counts_of row)))
+row_answer table (Ok row) = unless_fault (row_fault table 0 row) (formula_or_fault (parts_of (counts_of row)))
 
 -- the formula of a text, or its first fault
 unfoldable pub read_of : TableEntries → List ℕ → Answer
 read_of table text = row_answer table (row_of count_tail text)
 
 -- a count as a number of 32 bits, the largest for a greater one
-abbrev pub capped : Item × ℕ → Item × ℕ
-capped p = (p.0, min p.1 (2 ^ 32 - 1))
+abbrev pub capped_part : Item × ℕ → Item × ℕ
+capped_part p = (p.0, min p.1 (2 ^ 32 - 1))
 
 -- what is kept of a part of a row at a place
 abbrev pub part_value : ℕ → WrittenPart → ReadPart
@@ -92,7 +84,7 @@ value_fault table part = value_fault_if part.at (element_of table part.item.symb
 -- of the first of several
 abbrev pub values_fault : TableEntries → List ReadPart → Option FormulaFault
 values_fault table [] = None
-values_fault table (part ∷ parts) = first_fault (value_fault table part) (values_fault table parts)
+values_fault table (part ∷ parts) = option_or (value_fault table part) (values_fault table parts)
 
 -- the item that is kept, with its count
 abbrev pub value_part : ReadPart → Item × ℕ
@@ -103,6 +95,6 @@ abbrev pub count_value : List ℕ → ℕ
 count_value tail = min (count_of_tail tail) (2 ^ 32 - 1)
 
 -- a part that a text begins with, as it is told: the item, its count, and how many bytes both take
-abbrev pub told_part : Result WrittenPart ℕ → Result (LeadingItem × ℕ × ℕ) BadItem
-told_part (Ok part) = Ok (item_value part.item, count_value part.tail, length (part_text part))
-told_part (Err place) = Err (record { at = place })
+abbrev pub part_answer : Result WrittenPart ℕ → Result (LeadingItem × ℕ × ℕ) BadItem
+part_answer (Ok part) = Ok (item_value part.item, count_value part.tail, length (part_text part))
+part_answer (Err place) = Err (record { at = place })

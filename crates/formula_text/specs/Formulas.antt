@@ -1,5 +1,5 @@
 -- Formulas, which are lists of items with the numbers of their atoms, and the sum of such counts.
-use Rattle.std.specs.Prelude.{ℕ, ◌+◌, ◌-◌, ◌^◌, map, ◌≡◌, ◌≤◌, ◌<◌, Bool, ◌&&◌, ◌||◌, nat_lt, List, [], ◌∷◌, length}
+use Rattle.std.specs.Prelude.{ℕ, ◌+◌, ◌^◌, ◌≡◌, ◌≤◌, ◌<◌, Bool, ◌&&◌, ◌||◌, nat_lt, List, [], ◌∷◌, length}
 use Rattle.std.specs.Prelude.{fold, filter, sum_by, All, IsTrue, if◌then◌else◌, Option, Some, None, Result, Ok, Err}
 use Rattle.std.specs.List.{list_any}
 use Rattle.std.specs.FinMap.{put, is_sorted}
@@ -93,19 +93,6 @@ pub record AreSums (parts sums : List (Item × ℕ)) : Type 0 where
   pub ordered : IsTrue (is_in_hill_order sums)
   pub positive : All (λ p. 0 < p.1) sums
   pub counts : SumsUp parts sums
-
--- the count of each item is the difference of two lists' counts of it
-abbrev pub IsLess : List (Item × ℕ) → List (Item × ℕ) → List (Item × ℕ) → Type 0
-IsLess given taken f = (item : Item) → count_in f item + count_in taken item ≡ count_in given item
-
--- the sums of the first list's counts without the atoms that the second list takes
-abbrev pub difference_of : List (Item × ℕ) → List (Item × ℕ) → List (Item × ℕ)
-difference_of given taken = map (λ p. (p.0, p.1 - count_in taken p.0)) (sum_of given)
-
--- the counts of a formula, or of a part of one, that are the differences of two lists' counts
-pub record IsDifferenceOf (given taken f : List (Item × ℕ)) : Type 0 where
-  pub parts : IsParts f
-  pub counts : IsLess given taken f
 
 -- a formula whose counts are the sums of the parts' counts
 pub record IsSumOf (parts f : List (Item × ℕ)) : Type 0 where

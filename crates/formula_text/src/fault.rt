@@ -6,7 +6,7 @@ use std::alloc::{AllocError, AllocFailed, Global};
 use thiserror::Error;
 
 /// Why counts aren't within the limits of a formula: the first of these causes.
-#[derive(Debug, Drop, Error)]
+#[derive(Clone, Copy, Debug, PartialEq, Eq, Error)]
 pub enum PartsFault {
     /// More than 10,000 atoms of an item, or more than 20,000 in all.
     #[error("more than 10,000 atoms of a symbol or 20,000 in all")]
@@ -31,7 +31,7 @@ impl From<AllocError> for PartsFault {
 
 /// Why a text isn't the text of a formula: the first of these causes. A place is the number of
 /// bytes before it.
-#[derive(Debug, Drop, Error)]
+#[derive(Clone, Copy, Debug, PartialEq, Eq, Error)]
 pub enum FormulaFault {
     /// The first byte at which no formula text can go on, or the length of a text that ends inside an item.
     #[error("bad text at {place}")]

@@ -4,7 +4,7 @@ ghost use Rattle.written_items.specs.declared.item.Item.{Item};
 ghost use Rattle.formula_text.specs.Formulas.{IsParts, IsFormula, SumsUp, IsSumOf, count_in, atoms_of, formula_in};
 ghost use Rattle.formula_text.specs.Formulas.{formula_of};
 ghost use Rattle.formula_text.specs.Masses.{HasItems, mass_of};
-ghost use Rattle.formula_text.specs.PrintedText.{printed};
+ghost use Rattle.formula_text.specs.PrintedText.{printed_text};
 ghost use Rattle.formula_text.specs.FormulaTexts.{FormulaText};
 ghost use Rattle.formula_text.specs.FormulaReader.{read_of};
 ghost use Rattle.element_table.specs.Elements.{TableEntries};
@@ -112,7 +112,7 @@ impl Formula {
 
     /// The printed text: each item once, in Hill order, with its count unless that is 1.
     pub fn print(&self) -> Result<Vec<u8>, AllocError>
-        ensures text { IfOk result (λ text. text.items ≡ printed self.now) }
+        ensures text { IfOk result (λ text. text.items ≡ printed_text self.now) }
         ensures formula { IsFormula self.now }
 
         // The text is related to this formula and to no other, and it is read back as this formula with

@@ -5,12 +5,12 @@ ghost use Rattle.formula_text.specs.FormulaFaults.{is_parts_memory};
 ghost use Rattle.written_items.specs.declared.item.Item.{Item};
 ghost use Rattle.formula_text.specs.Formulas.{IsParts, SumsUp, count_in, atoms_of, parts_of};
 ghost use Rattle.formula_text.specs.Masses.{HasItems, mass_of};
-ghost use Rattle.formula_text.specs.PrintedText.{printed};
+ghost use Rattle.formula_text.specs.PrintedText.{printed_text};
 
 use crate::fault::PartsFault;
 use crate::limits::MAX_ITEMS;
 use crate::mass::{has_item, mass_of};
-use crate::print::printed;
+use crate::print::printed_text;
 use crate::sum::{count_of, has_many_atoms, has_many_of_one, sum_of};
 use element_table::Table;
 use std::alloc::{AllocError, Global};
@@ -107,10 +107,10 @@ impl Parts {
 
     /// The printed text: each item once, in Hill order, with its count unless that is 1.
     pub fn print(&self) -> Result<Vec<u8>, AllocError>
-        ensures text { IfOk result (λ text. text.items ≡ printed self.now) }
+        ensures text { IfOk result (λ text. text.items ≡ printed_text self.now) }
         ensures parts { IsParts self.now }
     {
-        printed(*self.items.allocator(), &self.items)
+        printed_text(*self.items.allocator(), &self.items)
     }
 }
 

@@ -8,7 +8,7 @@ ghost use Rattle.written_items.specs.RowReading.{count_tail, leading_part, row_o
 ghost use Rattle.formula_text.specs.FormulaFaults.{is_memory};
 ghost use Rattle.formula_text.specs.Masses.{HasItems};
 ghost use Rattle.formula_text.specs.FormulaTexts.{Answer, FormulaReading};
-ghost use Rattle.formula_text.specs.FormulaReader.{read_of, count_value, told_part, value_part, value_item};
+ghost use Rattle.formula_text.specs.FormulaReader.{read_of, count_value, part_answer, value_part, value_item};
 ghost use Rattle.formula_text.specs.FormulaReader.{value_fault, values_fault, values_or_fault};
 
 use crate::fault::FormulaFault;
@@ -41,18 +41,18 @@ pub fn read_formula(alloc: Global, table: &Table, text: &[u8]) -> Result<Formula
     // The table has each item of the formula.
     ensures known { IfOk result (HasItems table.now) }
 {
-    formula_of(alloc, table, text)
+    read_of(alloc, table, text)
 }
 
 /// The formula of a text as it is computed.
-fn formula_of(alloc: Global, table: &Table, text: &[u8]) -> Result<Formula, FormulaFault>
+fn read_of(alloc: Global, table: &Table, text: &[u8]) -> Result<Formula, FormulaFault>
     ensures { Gives is_memory result (read_of table.now text.now) }
 {
     let parts = read_parts(alloc, text)?;
-    if let Some(fault) = unknown_item(table, &parts) {
+    if let Some(fault) = values_fault(table, &parts) {
         return Err(fault);
     }
-    let items = counts_of(alloc, &parts)?;
+    let items = value_parts(alloc, &parts)?;
     let parts = Parts::of(alloc, &items)?;
     match Formula::from_parts(parts) {
         Some(formula) => Ok(formula),
@@ -86,15 +86,15 @@ fn read_parts(alloc: Global, text: &[u8]) -> Result<Vec<ReadPart>, FormulaFault>
 
 /// The item that a text begins with, its count, and how many bytes both take.
 fn leading_part(text: &[u8]) -> Result<(LeadingItem, u32, usize), BadItem>
-    ensures { result ≡ told_part (leading_part count_tail text.now) }
+    ensures { result ≡ part_answer (leading_part count_tail text.now) }
 {
     let item = leading_item(text)?;
     let digits = leading_digits(&text[item.byte_count..]);
-    Ok((item, count_of(digits), item.byte_count + digits.len()))
+    Ok((item, count_value(digits), item.byte_count + digits.len()))
 }
 
 /// The count that digits write, 1 where there is none; 2^32 - 1 for a greater one.
-fn count_of(digits: &[u8]) -> u32
+fn count_value(digits: &[u8]) -> u32
     requires { AllDigits 10 digits.now }
     ensures { result ≡ count_value digits.now }
 {
@@ -106,12 +106,12 @@ fn count_of(digits: &[u8]) -> u32
 }
 
 /// The fault of the first item that the table doesn't have.
-fn unknown_item(table: &Table, parts: &[ReadPart]) -> Option<FormulaFault>
+fn values_fault(table: &Table, parts: &[ReadPart]) -> Option<FormulaFault>
     ensures fault { result ≡ values_fault table.now parts.now }
     ensures table { 0 < length parts.now → IsTable table.now }
 {
     for part in parts {
-        if let Some(fault) = item_fault(table, part) {
+        if let Some(fault) = value_fault(table, part) {
             return Some(fault);
         }
     }
@@ -119,7 +119,7 @@ fn unknown_item(table: &Table, parts: &[ReadPart]) -> Option<FormulaFault>
 }
 
 /// The fault of an item that the table doesn't have.
-fn item_fault(table: &Table, part: &ReadPart) -> Option<FormulaFault>
+fn value_fault(table: &Table, part: &ReadPart) -> Option<FormulaFault>
     ensures fault { result ≡ value_fault table.now part.now }
     ensures table { IsTable table.now }
 {
@@ -135,17 +135,17 @@ fn item_fault(table: &Table, part: &ReadPart) -> Option<FormulaFault>
 }
 
 /// The items with their counts.
-fn counts_of(alloc: Global, parts: &[ReadPart]) -> Result<Vec<(Item, u32)>, AllocError>
+fn value_parts(alloc: Global, parts: &[ReadPart]) -> Result<Vec<(Item, u32)>, AllocError>
     ensures { IfOk result (λ v. v.items ≡ map value_part parts.now) }
 {
     parts
         .iter()
-        .map(|part| (item_of(&part.item), part.count))
+        .map(|part| (value_item(&part.item), part.count))
         .collect(alloc)
 }
 
 /// The item that was read.
-fn item_of(item: &LeadingItem) -> Item
+fn value_item(item: &LeadingItem) -> Item
     ensures { result ≡ value_item item.now }
 {
     Item {

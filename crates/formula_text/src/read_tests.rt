@@ -87,6 +87,47 @@ fn a_refused_text_has_its_first_fault(rt: HostRuntime) -> Result<(), Fail> {
     expect_outcomes(&rt, rt.alloc(), rows)
 }
 
+/// A table of the 21 elements Aa to Au.
+fn table_of_21(alloc: Global) -> Result<Table, Fail> {
+    let mut file = Vec::new(alloc);
+    file.extend_from_slice(b"symbol,number,mass,abundance,valence\ne-,0,0.0005,0,0\n")?;
+    for letter in b'a'..=b'u' {
+        file.extend_from_slice(&[b'A', letter])?;
+        file.extend_from_slice(b",1,1,1,1\n")?;
+    }
+    Ok(read_table(alloc, &file)?)
+}
+
+#[test]
+fn a_text_has_at_most_20_symbols(rt: HostRuntime) -> Result<(), Fail> {
+    let alloc = rt.alloc();
+    let table = table_of_21(alloc)?;
+    let mut text = Vec::new(alloc);
+    for letter in b'a'..=b't' {
+        text.extend_from_slice(&[b'A', letter])?;
+    }
+    let twenty = text.clone()?;
+    // A symbol again, and one without an atom, make no more of them.
+    for (more, is_read) in [
+        (b"".as_slice(), true),
+        (b"Aa", true),
+        (b"Au0", true),
+        (b"Au", false),
+    ] {
+        text.truncate(twenty.len());
+        text.extend_from_slice(more)?;
+        let found = outcome(alloc, &table, &text)?;
+        assert_eq!(rt; found.len() >= twenty.len(), is_read);
+        assert_eq!(rt;
+            found.as_slice() == b"too many elements".as_slice(),
+            !is_read
+        );
+    }
+    let found = outcome(alloc, &table, &twenty)?;
+    assert_eq!(rt; found.as_slice(), twenty.as_slice());
+    Ok(())
+}
+
 #[test]
 fn the_mass_is_the_sum_of_the_atoms_masses(rt: HostRuntime) -> Result<(), Fail> {
     let alloc = rt.alloc();

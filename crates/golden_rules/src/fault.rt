@@ -9,7 +9,7 @@ use thiserror::Error;
 
 /// Why the bytes of a rules file are refused: the first fault in the order of the lines, and in a line the first of the
 /// order below; `line` is the line's number from 1.
-#[derive(Debug, Drop, Error)]
+#[derive(Clone, Copy, Debug, PartialEq, Eq, Error)]
 pub enum RulesFault {
     /// The line is no rule, is not empty and no comment.
     #[error("line {line}: not a rule")]

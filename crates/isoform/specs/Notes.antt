@@ -5,7 +5,7 @@ use Rattle.command_words.specs.WordsFaults.{words_fault_words}
 use Rattle.element_table.specs.TableFaults.{table_fault_words}
 use Rattle.alphabet_text.specs.AlphabetFaults.{alphabet_fault_words}
 use Rattle.formula_text.specs.FormulaFaults.{formula_fault_words}
-use Rattle.formula_text.specs.PrintedText.{printed}
+use Rattle.formula_text.specs.PrintedText.{printed_text}
 use Rattle.isoform.specs.declared.input_fault.InputFault.{InputFault}
 use Rattle.isoform.specs.declared.input_fault.InputFault.TheVariants.{Words, FileLimit, Table, Alphabet, Formula}
 use Rattle.isoform.specs.declared.input_fault.InputFault.TheVariants.{CandidateLimit, Wide}
@@ -38,7 +38,7 @@ fault_message (Table fault) = codes "table: " ++ table_fault_words fault
 fault_message (Alphabet fault) = codes "alphabet: " ++ alphabet_fault_words fault
 fault_message (Formula fault) = codes "formula: " ++ formula_fault_words fault
 fault_message (CandidateLimit peak) = codes "limit: candidates of peak " ++ decimal peak
-fault_message (Wide formula) = codes "limit: wide of " ++ printed formula
+fault_message (Wide formula) = codes "limit: wide of " ++ printed_text formula
 fault_message input.Memory = codes "memory"
 
 abbrev pub message_of : Refusal → List ℕ

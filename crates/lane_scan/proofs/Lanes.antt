@@ -1,5 +1,6 @@
 -- The lanes of one vector: which is the first that is reached, and how many are in a range.
-use Rattle.std.proofs.Common.{◌≡◌, ℕ, zero, suc, ◌+◌, ◌%◌, ◌^◌, ◌<◌, ◌≤◌, Bool, true, false, not, ◌&&◌, nat_le, nat_lt, List, [], ◌∷◌, length, get_or, map, take, drop, cond, arith, ◌∙◌, sym, subst}
+use Rattle.std.proofs.Common.{◌≡◌, ℕ, zero, suc, ◌+◌, ◌%◌, ◌^◌, ◌<◌, ◌≤◌, Bool, true, false, not, ◌&&◌, nat_le}
+use Rattle.std.proofs.Common.{nat_lt, List, [], ◌∷◌, length, get_or, map, take, drop, cond, arith, ◌∙◌, sym, subst}
 use Rattle.std.specs.Prelude.{count_by}
 use Rattle.std.specs.List.{prefix_len}
 use lib.Count.{count_trailing_zeros}

@@ -1,6 +1,7 @@
 -- The limits of measured values and ions. Masses and m/z are in 10^-12 Da, ppm in 10^-3 ppm.
 use Rattle.std.specs.Prelude.{ℕ, ℤ, ◌≤◌, unsigned_abs}
-use Rattle.mass_scaling.specs.declared.limits.TheConstants.{MAX_MZ, MAX_PPM, MAX_DA, MAX_DIVISOR, MAX_COPIES, MAX_ION_MASS}
+use Rattle.mass_scaling.specs.declared.limits.TheConstants.{MAX_MZ, MAX_PPM, MAX_DA, MAX_DIVISOR, MAX_COPIES}
+use Rattle.mass_scaling.specs.declared.limits.TheConstants.{MAX_ION_MASS}
 use Rattle.mass_scaling.specs.declared.tolerances.Tolerance.{Tolerance}
 use Rattle.mass_scaling.specs.declared.tolerances.Tolerance.TheVariants.{Ppm, Da, PpmCalculated}
 use Rattle.mass_scaling.specs.declared.windows.Charged.{Charged}

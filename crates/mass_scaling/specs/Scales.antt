@@ -1,6 +1,7 @@
 -- The masses of an alphabet counted in whole grains, and the numbers of grains that the count lists of a window of
 -- mass can weigh. Masses and grains are in 10^-12 Da.
-use Rattle.std.specs.Prelude.{◌≡◌, ℕ, ◌*◌, ◌/◌, ◌^◌, ◌<◌, ◌≤◌, Bool, nat_le, List, length, map, slice_index, All, AllPairs, if◌then◌else◌}
+use Rattle.std.specs.Prelude.{◌≡◌, ℕ, ◌*◌, ◌/◌, ◌^◌, ◌<◌, ◌≤◌, Bool, nat_le, List, length, map, slice_index, All}
+use Rattle.std.specs.Prelude.{AllPairs, if◌then◌else◌}
 use Rattle.mass_scaling.specs.declared.limits.TheConstants.{MAX_MASSES, MAX_BASE_MASS, MAX_SCALED_BASE, MAX_SCALED_MASS}
 use Rattle.mass_scaling.specs.declared.windows.Window.{Window}
 use Rattle.mass_scaling.specs.Masses.{AreMasses, base_of}

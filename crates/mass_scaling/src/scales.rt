@@ -1,5 +1,6 @@
 //! The masses of an alphabet counted in whole grains, and the window of scaled masses that a window of mass has.
-ghost use Rattle.std.specs.Prelude.{◌≡◌, ℕ, List, ◌*◌, ◌^◌, ◌<◌, ◌≤◌, ◌↔◌, IfOk, OnOk, IsErrOf, IsTrue, IfSome, IsNone, IsSomeAnd};
+ghost use Rattle.std.specs.Prelude.{◌≡◌, ℕ, List, ◌*◌, ◌^◌, ◌<◌, ◌≤◌, ◌↔◌};
+ghost use Rattle.std.specs.Prelude.{IfOk, OnOk, IsErrOf, IsTrue, IfSome, IsNone, IsSomeAnd};
 ghost use Rattle.mass_scaling.specs.Masses.{AreMasses, base_of, mass_of};
 ghost use Rattle.mass_scaling.specs.Windows.{Holds, HoldsExactly};
 ghost use Rattle.mass_scaling.specs.Ratios.{AreRatios};

@@ -1,7 +1,7 @@
 -- Pairs of m/z and intensity, their two columns, and the test whether they are peaks.
 use Rattle.std.proofs.Common.{◌≡◌, ℕ, suc, true, List, [], ◌∷◌, length, map, refl, sym, ap, subst, arith}
 use Rattle.std.proofs.lemmas.List.Elements.{All-weaker}
-use Rattle.std.proofs.lemmas.List.Sums.{AllPass-from_list_all, list_all-from_AllPass}
+use Rattle.std.proofs.lemmas.List.Sums.{list_all-from_AllPass}
 use Rattle.std.specs.List.{zip}
 use Rattle.peak_text.specs.PeakLists.{IsPeak, ArePeaks, AreColumns, is_peak, are_peaks}
 
@@ -23,20 +23,10 @@ AreColumns-pairs pairs peaks = record {
   sound = subst ArePeaks (sym (zip-columns pairs)) peaks;
 }
 
--- what the test of a pair says
-is_peak-IsPeak : (peak : ℕ × ℕ) → is_peak peak ≡ true → IsPeak peak
-is_peak-IsPeak peak passes = record { mz_from = grind arith; mz_to = grind arith; intensity_to = grind arith }
-
 IsPeak-is_peak : (peak : ℕ × ℕ) → IsPeak peak → is_peak peak ≡ true
 IsPeak-is_peak peak is = grind (arith, is.mz_from, is.mz_to, is.intensity_to)
 
--- what the test of all pairs says
-pub are_peaks-ArePeaks : (pairs : List (ℕ × ℕ)) → are_peaks pairs ≡ true → ArePeaks pairs
-are_peaks-ArePeaks pairs passes = record {
-  few = grind arith;
-  each = All-weaker _ _ is_peak-IsPeak pairs (AllPass-from_list_all is_peak pairs (grind arith));
-}
-
+-- peaks pass the test of all pairs
 pub ArePeaks-are_peaks : (pairs : List (ℕ × ℕ)) → ArePeaks pairs → are_peaks pairs ≡ true
 ArePeaks-are_peaks pairs peaks =
     grind (arith, peaks.few, list_all-from_AllPass is_peak pairs (All-weaker _ _ IsPeak-is_peak pairs peaks.each))

@@ -3,22 +3,22 @@ use Rattle.std.proofs.Common.{◌≡◌, ℕ, List, [], ◌∷◌, ◌++◌, cod
 use Rattle.std.specs.Prelude.{ℤ, pos, Result, Ok, Err, OnOk}
 use Rattle.std.specs.Fmt.{decimal, signed_decimal}
 use Rattle.written_items.specs.declared.item.Item.{Item}
-use Rattle.formula_text.specs.PrintedText.{printed}
+use Rattle.formula_text.specs.PrintedText.{printed_text}
 use Rattle.cover_certificate.specs.FormulaCovers.{MemberEntry}
 use Rattle.report_text.specs.ReportLines.{line, mass_text, ion_mass_text, mass_difference, shifted_mass, formula_line}
 use Rattle.report_text.specs.ReportLines.{isotopologue_line}
 
 pub formula_line-words : {A E : Type 0} (answer : Result A E) (before after : List ℕ) (formula : List (Item × ℕ))
     (mass : ℕ) (ion : ℤ) (mz divisor : ℕ) (word : List ℕ) (difference : ℤ)
-    → OnOk answer (after ≡ before ++ line (codes "formula" ∷ printed formula ∷ mass_text mass ∷ word ∷ signed_decimal
-    difference ∷ []))
+    → OnOk answer (after ≡ before ++ line (codes "formula" ∷ printed_text formula ∷ mass_text mass ∷ word
+    ∷ signed_decimal difference ∷ []))
     → word ≡ ion_mass_text ion → difference ≡ mass_difference ion mz divisor
     → OnOk answer (after ≡ before ++ formula_line formula mass ion mz divisor)
 formula_line-words (Ok x) before after formula mass ion mz divisor word difference appended ion_is difference_is =
     appended
-    ∙ ap (λ (t : List ℕ). before ++ line (codes "formula" ∷ printed formula ∷ mass_text mass ∷ t ∷ signed_decimal
+    ∙ ap (λ (t : List ℕ). before ++ line (codes "formula" ∷ printed_text formula ∷ mass_text mass ∷ t ∷ signed_decimal
     difference ∷ [])) ion_is
-    ∙ ap (λ (d : ℤ). before ++ line (codes "formula" ∷ printed formula ∷ mass_text mass ∷ ion_mass_text ion ∷
+    ∙ ap (λ (d : ℤ). before ++ line (codes "formula" ∷ printed_text formula ∷ mass_text mass ∷ ion_mass_text ion ∷
     signed_decimal d ∷ [])) difference_is
 formula_line-words (Err e) before after formula mass ion mz divisor word difference appended ion_is difference_is = tt
 

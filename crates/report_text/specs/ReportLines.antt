@@ -9,7 +9,7 @@ use Rattle.fixed_decimal.specs.DecimalTexts.{decimal_text}
 use Rattle.written_items.specs.declared.item.Item.{Item}
 use Rattle.element_table.specs.Elements.{TableEntries}
 use Rattle.formula_text.specs.Masses.{mass_of}
-use Rattle.formula_text.specs.PrintedText.{printed}
+use Rattle.formula_text.specs.PrintedText.{printed_text}
 use Rattle.adducts.specs.Adducts.{AdductValue, divisor_of}
 use Rattle.adducts.specs.Ions.{ion_mass}
 use Rattle.cover_certificate.specs.FormulaCovers.{MemberEntry, CoverEntries}
@@ -57,7 +57,7 @@ peak_line number mz = line (codes "peak" ∷ decimal number ∷ mass_text mz ∷
 -- the line of a formula: its text and its mass, the mass of its ion, and how far that is above divisor times m/z
 abbrev pub formula_line : List (Item × ℕ) → ℕ → ℤ → ℕ → ℕ → List ℕ
 formula_line formula mass ion_mass mz divisor =
-    line (codes "formula" ∷ printed formula ∷ mass_text mass ∷ ion_mass_text ion_mass
+    line (codes "formula" ∷ printed_text formula ∷ mass_text mass ∷ ion_mass_text ion_mass
     ∷ signed_decimal (mass_difference ion_mass mz divisor) ∷ [])
 
 -- the line of a formula over its ion, which is defined
@@ -69,7 +69,7 @@ decompose_line table formula adduct mz =
 -- the lines above the isotopologues of a cover
 abbrev pub envelope_head : CoverEntries → List ℕ
 envelope_head cover =
-    line (codes "envelope" ∷ printed cover.formula ∷ [])
+    line (codes "envelope" ∷ printed_text cover.formula ∷ [])
     ++ line (codes "coverage" ∷ decimal cover.coverage ∷ [])
     ++ line (codes "size" ∷ decimal cover.size ∷ [])
     ++ line (codes "bound" ∷ decimal cover.bound ∷ [])

@@ -1,7 +1,7 @@
 //! The words of a line.
 ghost use Rattle.std.specs.Prelude.{◌≡◌, ℕ, List, ◌++◌, length, take, OnOk, OnErr};
 ghost use Rattle.std.specs.Fmt.{decimal, signed_decimal};
-ghost use Rattle.formula_text.specs.PrintedText.{printed};
+ghost use Rattle.formula_text.specs.PrintedText.{printed_text};
 ghost use Rattle.report_text.specs.ReportLines.{IsPrintedMass, ion_mass_text, mass_text};
 ghost use Rattle.report_text.specs.Words.{word_text};
 
@@ -72,7 +72,7 @@ pub fn push_word(text: &mut Vec<u8>, word: &Word<'_>) -> Result<(), AllocError>
 
 /// Appends the printed text of a formula. Without room for all of it a part may be appended.
 fn push_formula(text: &mut Vec<u8>, formula: &Formula) -> Result<(), AllocError>
-    ensures text { OnOk result (text.new.items ≡ text.old.items ++ printed formula.now) }
+    ensures text { OnOk result (text.new.items ≡ text.old.items ++ printed_text formula.now) }
     ensures kept { OnErr result (take (length text.old.items) text.new.items ≡ text.old.items) }
 {
     for (item, count) in formula.items() {

@@ -24,9 +24,6 @@ pub numeral-digits : (ds : List ℕ) → AllDigits 10 ds → are_digits ds ≡ t
 numeral-digits [] h = refl
 numeral-digits (d ∷ ds) h = and_from _ _ (is_digit-value d h.0) (numeral-digits ds h.1)
 
-pub digit-capital : (b : ℕ) → is_ascii_digit b ≡ true → is_capital b ≡ false
-digit-capital b h = grind (arith, nat_tests)
-
 pub capital-digit : (b : ℕ) → is_capital b ≡ true → is_ascii_digit b ≡ false
 capital-digit b h = grind (arith, nat_tests)
 

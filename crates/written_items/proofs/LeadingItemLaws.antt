@@ -1,6 +1,6 @@
 -- The item that a text begins with: what is written is read, what is read is written, and where none can go on
 -- is the place of bad text.
-use Rattle.std.proofs.Common.{◌≡◌, ℕ, ◌+◌, ◌<◌, ◌≤◌, Bool, true, false, cond, eqb, List, [], ◌∷◌, ◌++◌, length, drop}
+use Rattle.std.proofs.Common.{◌≡◌, ℕ, ◌+◌, ◌≤◌, Bool, true, false, cond, eqb, List, [], ◌∷◌, ◌++◌, length, drop}
 use Rattle.std.proofs.Common.{refl, sym, ap, subst, ◌∙◌, arith, append_assoc, ◌-◌, ◌^◌, length-append}
 use Rattle.std.specs.Prelude.{min}
 use Rattle.std.specs.Str.Parse.{digits_value}
@@ -23,7 +23,7 @@ use Rattle.written_items.specs.WrittenItems.{is_item_start, EndsSymbol, IsLeadin
 use Rattle.written_items.specs.declared.item.LeadingItem.{LeadingItem}
 use Rattle.written_items.specs.declared.item.BadItem.{BadItem}
 use Rattle.written_items.specs.LeadingItems.{symbol_letters, leading_symbol, closed_item, numbered_item, labelled_item}
-use Rattle.written_items.specs.LeadingItems.{plain_item, leading_item, told}
+use Rattle.written_items.specs.LeadingItems.{plain_item, leading_item, item_answer}
 use Rattle.written_items.proofs.BadPlaceSteps.{first_byte, bad-here, bad-behind}
 use Rattle.written_items.proofs.ByteKinds.{capital-digit, begins-first, digits-numeral, numeral-digits}
 use Rattle.written_items.proofs.ByteKinds.{take_while-run, take_while-stops}
@@ -478,20 +478,21 @@ leading_item-written w rest is ends = written w.digits w.symbol rest is.symbol i
 
 -- ---- what a reader tells
 
-pub TellsLeadingItem-told : (text : List ℕ) (r : Result LeadingItem BadItem) → r ≡ told (leading_item text)
+pub TellsLeadingItem-item_answer : (text : List ℕ) (r : Result LeadingItem BadItem)
+    → r ≡ item_answer (leading_item text)
     → IfOk r (TellsLeadingItem text)
-TellsLeadingItem-told text r e =
-    elim (leading_item text) as (λ o. leading_item text ≡ o → r ≡ told o → IfOk r (TellsLeadingItem text)) [
+TellsLeadingItem-item_answer text r e =
+    elim (leading_item text) as (λ o. leading_item text ≡ o → r ≡ item_answer o → IfOk r (TellsLeadingItem text)) [
       | Ok w ↦ λ is e. subst (λ r. IfOk r (TellsLeadingItem text)) (sym e)
-          (record { item = w; leading = leading_item-Ok text w is; told = refl })
+          (record { item = w; leading = leading_item-Ok text w is; value_is = refl })
       | Err place ↦ λ is e. subst (λ r. IfOk r (TellsLeadingItem text)) (sym e) tt
     ] refl e
 
-pub IsBadPlace-told : (text : List ℕ) (r : Result LeadingItem BadItem) → r ≡ told (leading_item text)
+pub IsBadPlace-item_answer : (text : List ℕ) (r : Result LeadingItem BadItem) → r ≡ item_answer (leading_item text)
     → IfErr r (λ e. IsBadPlace BeginsWithItem text e.at)
-IsBadPlace-told text r e =
+IsBadPlace-item_answer text r e =
     elim (leading_item text) as (λ o. leading_item text ≡ o → r
-    ≡ told o → IfErr r (λ e. IsBadPlace BeginsWithItem text e.at)) [
+    ≡ item_answer o → IfErr r (λ e. IsBadPlace BeginsWithItem text e.at)) [
       | Ok w ↦ λ is e. subst (λ r. IfErr r (λ (e : BadItem). IsBadPlace BeginsWithItem text e.at)) (sym e) tt
       | Err place ↦ λ is e. subst (λ r. IfErr r (λ (e : BadItem). IsBadPlace BeginsWithItem text e.at)) (sym e)
           (leading_item-Err text place is)
@@ -504,34 +505,34 @@ begins-some p (b ∷ rest) h = omega arith
 -- the item with brackets, and the one without
 
 pub labelled-leading_item : (text : List ℕ) → begins is_opening text ≡ true
-    → told (labelled_item (drop 1 text)) ≡ told (leading_item text)
+    → item_answer (labelled_item (drop 1 text)) ≡ item_answer (leading_item text)
 unfolding leading_item
 labelled-leading_item text bracket =
-    sym (ap (λ b. told (cond b (labelled_item (drop 1 text)) (plain_item (leading_symbol text)))) bracket)
+    sym (ap (λ b. item_answer (cond b (labelled_item (drop 1 text)) (plain_item (leading_symbol text)))) bracket)
 
 pub plain-leading_item : (text : List ℕ) → begins is_opening text ≡ false
-    → told (plain_item (leading_symbol text)) ≡ told (leading_item text)
+    → item_answer (plain_item (leading_symbol text)) ≡ item_answer (leading_item text)
 unfolding leading_item
 plain-leading_item text other =
-    sym (ap (λ b. told (cond b (labelled_item (drop 1 text)) (plain_item (leading_symbol text)))) other)
+    sym (ap (λ b. item_answer (cond b (labelled_item (drop 1 text)) (plain_item (leading_symbol text)))) other)
 
 abbrev told_item : List ℕ → ℕ → ℕ → Result LeadingItem BadItem
 told_item s number count = Ok (record { symbol = s; number = Some number; byte_count = count })
 
 -- the item in brackets of these digits and this symbol, as a reader tells it
-pub told-labelled : (text ds s : List ℕ) (number : ℕ) → ds ≡ leading_digits text → eqb (length ds) 0 ≡ false
+pub item_answer-labelled : (text ds s : List ℕ) (number : ℕ) → ds ≡ leading_digits text → eqb (length ds) 0 ≡ false
     → leading_symbol (drop (length ds) text) ≡ Some s
     → begins is_closing (drop (length s) (drop (length ds) text)) ≡ true
     → number ≡ min (digits_value 10 ds) (2 ^ 32 - 1)
-    → told_item s number (1 + length ds + length s + 1) ≡ told (labelled_item text)
-told-labelled text ds s number digits some symbol closed value =
+    → told_item s number (1 + length ds + length s + 1) ≡ item_answer (labelled_item text)
+item_answer-labelled text ds s number digits some symbol closed value =
     let behind = drop (length ds) text in
     let item : WrittenItem = record { symbol = s; digits = Some ds } in
     let size : 1 + length ds + length s + 1 ≡ length (written_text item) =
     omega (arith, length-append ds (s ++ closing_bracket ∷ []), length-append s (closing_bracket ∷ [])) in
     ap (λ n. told_item s n (1 + length ds + length s + 1)) value
     ∙ ap (λ n. told_item s (min (digits_value 10 ds) (2 ^ 32 - 1)) n) size
-    ∙ sym (ap (λ b. told (closed_if ds s b)) closed)
-    ∙ sym (ap (λ o. told (closed_item ds o behind)) symbol)
-    ∙ sym (ap (λ b. told (cond b (Err 1) (closed_item ds (leading_symbol behind) behind))) some)
-    ∙ ap (λ d. told (numbered_item d (drop (length d) text))) digits
+    ∙ sym (ap (λ b. item_answer (closed_if ds s b)) closed)
+    ∙ sym (ap (λ o. item_answer (closed_item ds o behind)) symbol)
+    ∙ sym (ap (λ b. item_answer (cond b (Err 1) (closed_item ds (leading_symbol behind) behind))) some)
+    ∙ ap (λ d. item_answer (numbered_item d (drop (length d) text))) digits

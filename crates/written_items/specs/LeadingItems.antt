@@ -47,6 +47,6 @@ leading_item text =
     else plain_item (leading_symbol text)
 
 -- the same as a reader tells it
-abbrev pub told : Result WrittenItem ℕ → Result LeadingItem BadItem
-told (Ok item) = Ok (item_value item)
-told (Err place) = Err (record { at = place })
+abbrev pub item_answer : Result WrittenItem ℕ → Result LeadingItem BadItem
+item_answer (Ok item) = Ok (item_value item)
+item_answer (Err place) = Err (record { at = place })

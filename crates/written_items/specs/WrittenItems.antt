@@ -95,4 +95,4 @@ pub record IsLeadingItem (text : List ℕ) (item : WrittenItem) : Type 0 where
 pub record TellsLeadingItem (text : List ℕ) (value : LeadingItem) : Type 0 where
   pub item : WrittenItem
   pub leading : IsLeadingItem text item
-  pub told : value ≡ item_value item
+  pub value_is : value ≡ item_value item

@@ -4,7 +4,8 @@ ghost use Rattle.reader_answers.specs.BadPlaces.{IsBadPlace};
 ghost use Rattle.std.specs.List.{prefix_len};
 ghost use Rattle.element_table.specs.SymbolText.{is_capital, is_small};
 ghost use Rattle.written_items.specs.WrittenItems.{BeginsWithItem, TellsLeadingItem, IsLeadingSymbol, begins};
-ghost use Rattle.written_items.specs.LeadingItems.{leading_symbol, leading_item, labelled_item, plain_item, told};
+ghost use Rattle.written_items.specs.LeadingItems.{item_answer, leading_symbol, leading_item, labelled_item};
+ghost use Rattle.written_items.specs.LeadingItems.{plain_item};
 
 use crate::item::{BadItem, LeadingItem};
 use element_table::Symbol;
@@ -34,7 +35,7 @@ pub fn leading_symbol(text: &[u8]) -> Option<Symbol>
 /// The item that a text begins with, in brackets or with as many small letters as follow, at most two;
 /// or the place at which no item can go on.
 pub fn leading_item(text: &[u8]) -> Result<LeadingItem, BadItem>
-    ensures item { result ≡ told (leading_item text.now) }
+    ensures item { result ≡ item_answer (leading_item text.now) }
     ensures leading { IfOk result (TellsLeadingItem text.now) }
     ensures bad { IfErr result (λ e. IsBadPlace BeginsWithItem text.now e.at) }
 {
@@ -47,7 +48,7 @@ pub fn leading_item(text: &[u8]) -> Result<LeadingItem, BadItem>
 
 /// The item without brackets that a text begins with.
 fn plain_item(text: &[u8]) -> Result<LeadingItem, BadItem>
-    ensures { result ≡ told (plain_item (leading_symbol text.now)) }
+    ensures { result ≡ item_answer (plain_item (leading_symbol text.now)) }
 {
     match leading_symbol(text) {
         Some(symbol) => Ok(LeadingItem {
@@ -61,7 +62,7 @@ fn plain_item(text: &[u8]) -> Result<LeadingItem, BadItem>
 
 /// The item in brackets of which `text` is behind the first bracket. Places are counted from that bracket.
 fn labelled_item(text: &[u8]) -> Result<LeadingItem, BadItem>
-    ensures { result ≡ told (labelled_item text.now) }
+    ensures { result ≡ item_answer (labelled_item text.now) }
 {
     let digits = leading_digits(text);
     if digits.is_empty() {

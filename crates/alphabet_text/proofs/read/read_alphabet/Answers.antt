@@ -2,12 +2,12 @@ use Rattle.std.proofs.Common.{◌≡◌, ◌<◌, ◌≤◌, [], length, Ok, Err
 use Rattle.decompose.specs.declared.limits.TheConstants.{MAX_COUNT}
 use Rattle.reader_answers.specs.Answers.{◌>>=◌}
 use Rattle.alphabet_text.specs.declared.written.WrittenEntry.{WrittenEntry}
-use Rattle.alphabet_text.specs.WrittenEntries.{first_high_place, gathered}
+use Rattle.alphabet_text.specs.WrittenEntries.{first_high_place, entries_behind}
 use Rattle.alphabet_text.proofs.OneReading.{meaning, only}
 use Rattle.alphabet_text.proofs.FirstFaults.{of-table, empty-text, some-byte, read-row, bad-text, high-limit}
 use Rattle.alphabet_text.proofs.FirstFaults.{low-limits, low-numbers}
 use Rattle.alphabet_text.proofs.FirstFaults.{some-written, unless_many, too-many, few-enough, Gives-passed}
-use Rattle.alphabet_text.proofs.GatheredEntries.{length-gathered}
+use Rattle.alphabet_text.proofs.GatheredEntries.{length-entries_behind}
 use Rattle.alphabet_text.proofs.SortedEntries.{IsAlphabet-sorted}
 use Rattle.alphabet_text.proofs.read.read_alphabet.Goals as goal
 use Rattle.alphabet_text.specs.declared.entries.TheConstants.{MAX_ENTRIES}
@@ -48,8 +48,8 @@ returns-in-Some-clause-meaning c = meaning c.args.table.now c.args.text.now
 pub returns-in-Some-clause-only : goal.returns-in-Some-clause-only
 returns-in-Some-clause-only c = only c.args.table.now c.args.text.now
 
-pub gathered-requires : goal.gathered-requires
-gathered-requires c =
+pub entries_behind-requires : goal.entries_behind-requires
+entries_behind-requires c =
     let table = c.args.table.now in
     let text = c.args.text.now in
     let ws = c.in_ok-written.written.items in
@@ -68,7 +68,7 @@ returns-in_err-entries-clause-gives c =
     let some = subst (λ vs. 0 < length vs) (sym c.deref-2.ensures.value) (some-written text ws row) in
     let steps =
     low-limits table text ws (c.in_err-entries.ensures.table some) row low
-    ∙ ap (λ vs. gathered table [] vs >>= unless_many) (sym c.deref-2.ensures.value) in
+    ∙ ap (λ vs. entries_behind table [] vs >>= unless_many) (sym c.deref-2.ensures.value) in
     let fault = c.in_err-entries.field-0.0 in
     let refused : c.from_residual-in_err-entries.result ≡ Err fault = search rules in
     rw refused (Gives-passed fault _ _ (λ e. steps ∙ ap (λ r. r >>= unless_many) e) c.in_err-entries.ensures.entries)
@@ -89,7 +89,7 @@ returns-then-len-gt-MAX_ENTRIES-clause-gives c =
     let some = subst (λ vs. 0 < length vs) (sym c.deref-2.ensures.value) (some-written text ws row) in
     let steps =
     low-limits table text ws (c.in_ok-entries.ensures.table some) row low
-    ∙ ap (λ vs. gathered table [] vs >>= unless_many) (sym c.deref-2.ensures.value) in
+    ∙ ap (λ vs. entries_behind table [] vs >>= unless_many) (sym c.deref-2.ensures.value) in
     let es = c.in_ok-entries.entries.items in
     let above : MAX_ENTRIES < length es = omega (arith, c.in_ok-entries.entries.ok.0) in
     steps ∙ ap (λ r. r >>= unless_many) c.in_ok-entries.ensures.entries ∙ too-many es above
@@ -114,7 +114,7 @@ of-requires c =
     let row = read-row text ws (some-byte text c.if-is_empty.ensures) c.in_ok-written.ensures in
     let low = ap first_high_place (sym c.deref.ensures.value) ∙ sym c.first_high_place.ensures ∙ c.in_default.is in
     let es = c.in_ok-entries.entries.items in
-    let count = length-gathered table [] c.deref-2.result.now es c.in_ok-entries.ensures.entries in
+    let count = length-entries_behind table [] c.deref-2.result.now es c.in_ok-entries.ensures.entries in
     let written = ap length c.deref-2.ensures.value in
     let some = some-written text ws row in
     let few : length es ≤ MAX_ENTRIES = omega (arith, c.in_ok-entries.entries.ok.0) in
@@ -138,7 +138,7 @@ returns-clause-gives c =
     let some = subst (λ vs. 0 < length vs) (sym c.deref-2.ensures.value) (some-written text ws row) in
     let steps =
     low-limits table text ws (c.in_ok-entries.ensures.table some) row low
-    ∙ ap (λ vs. gathered table [] vs >>= unless_many) (sym c.deref-2.ensures.value) in
+    ∙ ap (λ vs. entries_behind table [] vs >>= unless_many) (sym c.deref-2.ensures.value) in
     let es = c.in_ok-entries.entries.items in
     let few : length es ≤ MAX_ENTRIES = omega (arith, c.in_ok-entries.entries.ok.0) in
     steps ∙ ap (λ r. r >>= unless_many) c.in_ok-entries.ensures.entries ∙ few-enough es few
@@ -160,7 +160,7 @@ returns-clause-of_table c =
     let some = subst (λ vs. 0 < length vs) (sym c.deref-2.ensures.value) (some-written text ws row) in
     let steps =
     low-limits table text ws (c.in_ok-entries.ensures.table some) row low
-    ∙ ap (λ vs. gathered table [] vs >>= unless_many) (sym c.deref-2.ensures.value) in
+    ∙ ap (λ vs. entries_behind table [] vs >>= unless_many) (sym c.deref-2.ensures.value) in
     let es = c.in_ok-entries.entries.items in
     let few : length es ≤ MAX_ENTRIES = omega (arith, c.in_ok-entries.entries.ok.0) in
     of-table table text c.in_ok-of.field-0

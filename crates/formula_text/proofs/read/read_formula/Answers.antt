@@ -9,4 +9,4 @@ pub returns-clause-only : goal.returns-clause-only
 returns-clause-only c = reading-only c.args.table.now c.args.text.now
 
 pub returns-clause-known : goal.returns-clause-known
-returns-clause-known c = HasItems-answer c.args.table.now c.args.text.now c.formula_of.result c.formula_of.ensures
+returns-clause-known c = HasItems-answer c.args.table.now c.args.text.now c.read_of.result c.read_of.ensures

@@ -1,7 +1,7 @@
 use Rattle.std.proofs.Common.{ℕ, ◌+◌, ◌<◌, List, ◌∷◌, [], length, drop, sym, ap, ◌∙◌, arith, length-drop}
 use Rattle.std.proofs.lemmas.List.{take_rest, drop-drop}
 use Rattle.written_items.specs.RowReading.{count_tail, leading_part, row_of}
-use Rattle.formula_text.specs.FormulaReader.{told_part, values_or_fault}
+use Rattle.formula_text.specs.FormulaReader.{part_answer, values_or_fault}
 use Rattle.formula_text.proofs.ReadingSteps.{values_before, values_before-append, NextPart, next_part, BadPart}
 use Rattle.formula_text.proofs.ReadingSteps.{bad_part, values-end}
 use Rattle.formula_text.proofs.read.read_parts.Goals as goal
@@ -15,14 +15,14 @@ next : (c : In_ok-push-in-Ok)
 next c =
     next_part c.loop-at.at (drop c.loop-at.at c.args.text.now) (c.in-Ok.item, c.in-Ok.count, c.in-Ok.length)
     (rest-some c.args.text.now c.loop-at.at c.loop-at-test.true)
-    (ap (λ t. told_part (leading_part count_tail t)) (sym (take_rest c.args.text.now c.loop-at.at))
+    (ap (λ t. part_answer (leading_part count_tail t)) (sym (take_rest c.args.text.now c.loop-at.at))
     ∙ sym c.in-Ok.ensures)
 
 bad : (c : After-drop-parts-in-Err) → BadPart c.loop-at.at (drop c.loop-at.at c.args.text.now) c.in-Err.bad
 bad c =
     bad_part c.loop-at.at (drop c.loop-at.at c.args.text.now) c.in-Err.bad
     (rest-some c.args.text.now c.loop-at.at c.loop-at-test.true)
-    (ap (λ t. told_part (leading_part count_tail t)) (sym (take_rest c.args.text.now c.loop-at.at))
+    (ap (λ t. part_answer (leading_part count_tail t)) (sym (take_rest c.args.text.now c.loop-at.at))
     ∙ sym c.in-Err.ensures)
 
 pub overflow_add-at : goal.overflow_add-at
@@ -55,7 +55,7 @@ overflow_add-result c =
     let part =
     bad_part c.loop-at.at (drop c.loop-at.at c.args.text.now) c.in-Err.bad
     (rest-some c.args.text.now c.loop-at.at c.loop-at-test.true)
-    (ap (λ t. told_part (leading_part count_tail t)) (sym (take_rest c.args.text.now c.loop-at.at))
+    (ap (λ t. part_answer (leading_part count_tail t)) (sym (take_rest c.args.text.now c.loop-at.at))
     ∙ sym c.in-Err.ensures) in
     let within = part.within in
     let len = length-drop c.loop-at.at c.args.text.now in

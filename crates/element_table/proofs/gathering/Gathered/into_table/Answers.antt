@@ -3,7 +3,7 @@ use Rattle.std.specs.Option.{ForSome}
 use Rattle.std.proofs.lemmas.Grind.{common_steps}
 use Rattle.element_table.specs.Limits.{min_electron_mass, max_electron_mass}
 use Rattle.element_table.specs.Elements.{IsTable}
-use Rattle.element_table.specs.TableRows.{weightless}
+use Rattle.element_table.specs.TableRows.{weightless_element}
 use Rattle.element_table.proofs.Weights.{IsTable-from_weighted}
 use Rattle.element_table.proofs.gathering.Gathered.into_table.Goals as goal
 use Rattle.element_table.proofs.gathering.Gathered.into_table.Goals.{In_ok-elements}
@@ -17,7 +17,7 @@ elements : (c : In_ok-elements) → c.in_ok-elements.elements.items ≡ c.args.s
 elements c = search rules
 
 -- and where none is without weight, they make a table
-table : (c : In_ok-elements) → weightless c.in_ok-elements.elements.items ≡ None
+table : (c : In_ok-elements) → weightless_element c.in_ok-elements.elements.items ≡ None
     → IsTable (record { electron = c.in_ok-electron.electron; elements = c.in_ok-elements.elements.items })
 table c none =
     let within : ForSome c.args.self.electron (λ mass. (min_electron_mass ≤ mass) × (mass ≤ max_electron_mass)) =
@@ -27,12 +27,12 @@ table c none =
 
 pub new-requires : goal.new-requires
 new-requires c =
-    let none : weightless c.in_ok-elements.elements.items ≡ None = grind (arith, common_steps) in
+    let none : weightless_element c.in_ok-elements.elements.items ≡ None = grind (arith, common_steps) in
     table (goal.at.new-requires c).In_ok-elements none
 
 pub returns-in-Some-clause-table : goal.returns-in-Some-clause-table
 returns-in-Some-clause-table c =
-    let some : weightless c.in_ok-elements.elements.items ≡ Some c.in-Some.element.now = cc in
+    let some : weightless_element c.in_ok-elements.elements.items ≡ Some c.in-Some.element.now = cc in
     rw (
       electron (goal.at.returns-in-Some-clause-table c).In_ok-elements,
       ← elements
@@ -43,7 +43,7 @@ returns-in-Some-clause-table c =
 
 pub returns-in-None-clause-table : goal.returns-in-None-clause-table
 returns-in-None-clause-table c =
-    let none : weightless c.in_ok-elements.elements.items ≡ None = grind (arith, common_steps) in
+    let none : weightless_element c.in_ok-elements.elements.items ≡ None = grind (arith, common_steps) in
     rw (
       electron (goal.at.returns-in-None-clause-table c).In_ok-elements,
       ← elements
@@ -53,5 +53,5 @@ returns-in-None-clause-table c =
 
 pub returns-in-None-clause-within : goal.returns-in-None-clause-within
 returns-in-None-clause-within c =
-    let none : weightless c.in_ok-elements.elements.items ≡ None = grind (arith, common_steps) in
+    let none : weightless_element c.in_ok-elements.elements.items ≡ None = grind (arith, common_steps) in
     rw c.new.ensures (table (goal.at.returns-in-None-clause-within c).In_ok-elements none)

@@ -8,7 +8,7 @@ use Rattle.formula_text.specs.FormulaFaults.{is_memory, fault_of}
 use Rattle.formula_text.specs.FormulaReader.{formula_or_fault, values_fault}
 use Rattle.formula_text.proofs.ReadAnswers.{read_of-bad, unless-memory, read_of-unknown, read_of-items, unless-same}
 use Rattle.formula_text.proofs.ReadAnswers.{fault_of-parts, some_from_parts, none_from_parts}
-use Rattle.formula_text.proofs.read.formula_of.Goals as goal
+use Rattle.formula_text.proofs.read.read_of.Goals as goal
 
 pub returns-in_err-parts : goal.returns-in_err-parts
 returns-in_err-parts c =
@@ -22,10 +22,10 @@ returns-in-Some c =
     let fault = c.in-Some.fault in
     let parts = c.in_ok-parts.parts.items in
     let found : values_fault c.args.table.now parts ≡ Some fault =
-    ap (values_fault c.args.table.now) (sym c.deref.ensures.value) ∙ sym c.unknown_item.ensures.fault
+    ap (values_fault c.args.table.now) (sym c.deref.ensures.value) ∙ sym c.values_fault.ensures.fault
     ∙ c.in-Some.is in
     let is : 0 < length parts → IsTable c.args.table.now =
-    λ some. c.unknown_item.ensures.table
+    λ some. c.values_fault.ensures.table
     (subst (λ (p : List ReadPart). 0 < length p) (sym c.deref.ensures.value) some) in
     unless-same (is_memory fault) _
     (read_of-unknown c.args.table.now c.args.text.now parts fault c.in_ok-parts.ensures.parts is found)
@@ -36,8 +36,8 @@ returns-in_err-parts-2 c =
     let known =
     read_of-items c.args.table.now c.args.text.now c.in_ok-parts.parts.items c.deref.result.now c.deref-2.result.now
     c.deref-3.result.now
-    c.in_ok-parts.ensures.parts c.deref.ensures.value c.deref-2.ensures.value c.unknown_item.ensures.table
-    (sym c.in_default.is ∙ c.unknown_item.ensures.fault) (c.deref-3.ensures.value ∙ c.in_ok-items.ensures) in
+    c.in_ok-parts.ensures.parts c.deref.ensures.value c.deref-2.ensures.value c.values_fault.ensures.table
+    (sym c.in_default.is ∙ c.values_fault.ensures.fault) (c.deref-3.ensures.value ∙ c.in_ok-items.ensures) in
     rw (p.1, p.2) (subst (Gives is_memory (Err (fault_of c.in_err-parts-2.field-0.0))) (sym known)
     (fault_of-parts c.in_err-parts-2.field-0.0 (parts_of c.deref-3.result.now) c.in_err-parts-2.ensures.sum))
 
@@ -46,8 +46,8 @@ returns-in-Some-from_parts c =
     let known =
     read_of-items c.args.table.now c.args.text.now c.in_ok-parts.parts.items c.deref.result.now c.deref-2.result.now
     c.deref-3.result.now
-    c.in_ok-parts.ensures.parts c.deref.ensures.value c.deref-2.ensures.value c.unknown_item.ensures.table
-    (sym c.in_default.is ∙ c.unknown_item.ensures.fault) (c.deref-3.ensures.value ∙ c.in_ok-items.ensures) in
+    c.in_ok-parts.ensures.parts c.deref.ensures.value c.deref-2.ensures.value c.values_fault.ensures.table
+    (sym c.in_default.is ∙ c.values_fault.ensures.fault) (c.deref-3.ensures.value ∙ c.in_ok-items.ensures) in
     known ∙ ap formula_or_fault c.in_ok-parts-2.ensures.sum
     ∙ some_from_parts c.in_ok-parts-2.parts c.in-Some-from_parts.formula c.in-Some-from_parts.ensures.formula
 
@@ -56,7 +56,7 @@ returns c =
     let known =
     read_of-items c.args.table.now c.args.text.now c.in_ok-parts.parts.items c.deref.result.now c.deref-2.result.now
     c.deref-3.result.now
-    c.in_ok-parts.ensures.parts c.deref.ensures.value c.deref-2.ensures.value c.unknown_item.ensures.table
-    (sym c.in_default.is ∙ c.unknown_item.ensures.fault) (c.deref-3.ensures.value ∙ c.in_ok-items.ensures) in
+    c.in_ok-parts.ensures.parts c.deref.ensures.value c.deref-2.ensures.value c.values_fault.ensures.table
+    (sym c.in_default.is ∙ c.values_fault.ensures.fault) (c.deref-3.ensures.value ∙ c.in_ok-items.ensures) in
     known ∙ ap formula_or_fault c.in_ok-parts-2.ensures.sum
     ∙ none_from_parts c.in_ok-parts-2.parts c.in-None.ensures.formula

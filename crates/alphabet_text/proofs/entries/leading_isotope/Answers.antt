@@ -1,5 +1,5 @@
 use Rattle.alphabet_text.proofs.TableIsotopes.{mass-found}
-use Rattle.alphabet_text.proofs.entries.told_isotope.Goals as goal
+use Rattle.alphabet_text.proofs.entries.leading_isotope.Goals as goal
 
 pub returns-in-Some-clause-within : goal.returns-in-Some-clause-within
 returns-in-Some-clause-within c =

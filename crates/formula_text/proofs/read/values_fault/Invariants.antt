@@ -1,7 +1,7 @@
 use Rattle.std.proofs.Common.{◌≡◌, ◌<◌, drop}
 use Rattle.element_table.specs.Elements.{IsTable}
 use Rattle.formula_text.specs.FormulaReader.{values_fault}
-use Rattle.formula_text.proofs.read.unknown_item.Given as goal
+use Rattle.formula_text.proofs.read.values_fault.Given as goal
 
 abbrev pub invariant-loop-part : goal.invariant-loop-part
 invariant-loop-part l =

@@ -3,8 +3,8 @@ use Rattle.decompose.specs.declared.limits.Limit.{Limit}
 use Rattle.decompose.specs.declared.limits.TheConstants.{MAX_COUNT}
 use Rattle.alphabet_text.specs.declared.written.WrittenEntry.{WrittenEntry}
 use Rattle.alphabet_text.specs.WrittenEntries.{entry_behind, has_item}
-use Rattle.alphabet_text.proofs.GatheredEntries.{gathered-step, gathered-stop, Gives-same, AreEntries-push}
-use Rattle.alphabet_text.proofs.entries.gathered.Goals as goal
+use Rattle.alphabet_text.proofs.GatheredEntries.{entries_behind-step, entries_behind-stop, Gives-same, AreEntries-push}
+use Rattle.alphabet_text.proofs.entries.entries_behind.Goals as goal
 
 pub returns-in_err-entry-clause-entries : goal.returns-in_err-entry-clause-entries
 returns-in_err-entry-clause-entries c =
@@ -13,7 +13,7 @@ returns-in_err-entry-clause-entries c =
     let here : c.deref.result.now ≡ es = c.deref.ensures.value in
     let refused : c.from_residual.result ≡ Err fault = search rules in
     let stops = c.loop-part.invariant.read
-    ∙ gathered-stop c.args.table.now es c.args.written.now c.loop-part.part-index c.part-item.result fault
+    ∙ entries_behind-stop c.args.table.now es c.args.written.now c.loop-part.part-index c.part-item.result fault
     c.loop-part-test.true c.part-item.is
     (c.in_err-entry.ensures.entry ∙ ap (λ l. entry_behind c.args.table.now l c.part-item.result) here) in
     rw refused (Gives-same (Err fault) _ stops)
@@ -29,7 +29,7 @@ loop-part-preserved c =
     let high = c.requires c.loop-part.part-index c.part-item.result c.loop-part-test.true in
     rw put record {
       read = c.loop-part.invariant.read
-          ∙ gathered-step c.args.table.now es c.args.written.now c.loop-part.part-index c.part-item.result entry
+          ∙ entries_behind-step c.args.table.now es c.args.written.now c.loop-part.part-index c.part-item.result entry
           c.loop-part-test.true c.part-item.is
           (told.entry ∙ ap (λ l. entry_behind c.args.table.now l c.part-item.result) here);
       sound = AreEntries-push es entry c.loop-part.invariant.sound told.isotope
