@@ -1,19 +1,21 @@
 -- `request_of` is what words ask for, and the one answer that they may have.
-use Rattle.std.proofs.Common.{◌≡◌, ◌∙◌, ◌&&◌, ℕ, Bool, true, false, if◌then◌else◌, List, [], ◌∷◌, find, map, Option, Some, None, is_some, is_none, Result, Ok, Err, ap, sym, refl, subst, inl, inr, unwrap_or, option_map, slice_get, length, arith, MatchBool, String, Global, string_bytes}
-use Rattle.std.specs.List.{AllByRecursion, list_all}
-use Rattle.std.specs.Option.{option_map_or}
+use Rattle.std.proofs.Common.{◌≡◌, ◌∙◌, ◌==◌, ℕ, Bool, true, false, if◌then◌else◌, List, [], ◌∷◌, find, map, Option, Some, None, is_some, is_none, Result, Ok, Err, ap, sym, refl, subst, inl, inr, unwrap_or, option_map, slice_get, length, arith, MatchBool, String, Global, string_bytes}
+use Rattle.std.specs.List.{AllByRecursion, count_by, list_all}
+use Rattle.std.specs.Option.{option_map_or, option_or}
 use Rattle.std.specs.Prelude.{option_and_then, ⊤}
 use Rattle.std.specs.Str.{bytes_eq}
 use Rattle.std.proofs.lemmas.Bool.{true≢false}
 use Rattle.std.proofs.lemmas.Option.{none-some}
 use Rattle.reader_answers.specs.Answers.{or_fault, ◌>>=◌}
-use Rattle.clap.specs.Walk.{Row, first_of}
+use Rattle.clap.specs.Walk.{first_of, rows_of}
+use Rattle.clap.specs.declared.parser.matches.Found.{Found}
+use Rattle.mass_scaling.specs.declared.tolerances.Tolerance.{Tolerance}
 use Rattle.mass_scaling.specs.declared.tolerances.Tolerance.TheVariants as tolerance
 use Rattle.command_words.specs.ClapCommands.{row_of_use}
-use Rattle.command_words.specs.Options.{Bytes, command_of, kind, name, number, number_within, options}
-use Rattle.command_words.specs.Requests.{Asks, IsReading, UsesAsk, has_required_options, has_value_outside, is_outside, number_of}
+use Rattle.command_words.specs.Options.{Bytes, command_of, default_text, groups, kind, name, number_within, options, required_options}
+use Rattle.command_words.specs.Requests.{Asks, IsReading, IsRequestOf, Values, ValuesAsk, first_outside, go_together, has_companion, has_one, has_value_outside, is_outside, number_of, text_of}
 use Rattle.command_words.specs.Uses.{Use, names, value_of}
-use Rattle.command_words.specs.WordReading.{command_request, is_memory, is_readable, decompose_request, envelope_request, option_number, request_of, uses_of}
+use Rattle.command_words.specs.WordReading.{answer_by, decompose_request, envelope_request, fields_request, is_memory, is_readable, matched, request_of, uses_of, values_request}
 use Rattle.command_words.specs.declared.commands.CommandName.{CommandName}
 use Rattle.command_words.specs.declared.commands.CommandName.TheVariants as command
 use Rattle.command_words.specs.declared.fault.WordsFault.{WordsFault}
@@ -22,291 +24,230 @@ use Rattle.command_words.specs.declared.options.OptionName.{OptionName}
 use Rattle.command_words.specs.declared.options.OptionName.TheVariants as option
 use Rattle.command_words.specs.declared.request.Request.{Request}
 use Rattle.command_words.specs.declared.request.Request.TheVariants.{Decompose, Envelope}
-use Rattle.command_words.proofs.WordUses.{is_plain, readable_from, uses_of-complete, uses_of-sound}
+use Rattle.command_words.proofs.WordUses.{and_parts, is_plain, readable_from, uses_of-complete, uses_of-sound}
 
-some-same : {A : Type 0} (x y : A) → Some x ≡ Some y → x ≡ y
+pub some-same : {A : Type 0} (x y : A) → Some x ≡ Some y → x ≡ y
 some-same x y e = ap (λ o. unwrap_or o x) e
 
--- ---- one command's uses
+-- ---- tests of each element
 
--- whether an option is given a value outside its range, by its value
-pub outside_by : (uses : List Use) (option : OptionName) (value : Bytes) → value_of uses option ≡ Some value
-    → has_value_outside uses option ≡ is_outside (kind option) value
-outside_by uses option value e = ap (λ given. option_map_or (is_outside (kind option)) given false) e
+-- each passes
+pub all_pass : {X : Type 0} (test : X → Bool) (xs : List X) → list_all test xs ≡ true
+    → AllByRecursion (λ x. test x ≡ true) xs
+all_pass test [] e = tt
+all_pass test (x ∷ xs) e = let parts = and_parts (test x) (list_all test xs) e in (parts.0, all_pass test xs parts.1)
 
-number_by : (uses : List Use) (option : OptionName) (value : Bytes) → value_of uses option ≡ Some value
-    → number_of uses option ≡ number_within (kind option) value
-number_by uses option value e = ap (λ given. option_and_then (number_within (kind option)) given) e
+-- none passes
+pub none_passes : {X : Type 0} (test : X → Bool) (xs : List X) → find test xs ≡ None
+    → AllByRecursion (λ x. test x ≡ false) xs
+none_passes test [] e = tt
+none_passes test (x ∷ xs) e = go (test x) refl e (none_passes test xs)
+  where
+    go : (b : Bool) → test x ≡ b → (if b then Some x else find test xs) ≡ None
+        → (find test xs ≡ None → AllByRecursion (λ x. test x ≡ false) xs) → AllByRecursion (λ x. test x ≡ false) (x ∷ xs)
+    go true is e rec = absurd (none-some x (sym e))
+    go false is e rec = (is, rec e)
 
--- the first option outside its range
-abbrev first_outside : List (Bool × OptionName) → Option OptionName
-first_outside [] = None
-first_outside ((b, option) ∷ rest) = if b then Some option else first_outside rest
+-- ---- the values of one command
 
-module _ (uses : List Use) where
-  abbrev decompose_by : Option Bytes → Option Bytes → Option Bytes → Option Bytes → Result Request WordsFault
-  decompose_by table mass da alphabet = or_fault Words table >>= λ table. or_fault Words mass
-      >>= λ mass. or_fault Words da >>= λ da.
-      or_fault Words alphabet >>= λ alphabet. option_number option.Mass mass >>= λ mass. option_number option.Da da
-      >>= λ da.
-      Ok (Decompose table mass (tolerance.Da da) alphabet)
+-- what there is
+pub there : {X : Type 0} (o : Option X) → is_some o ≡ true → (x : X) × (o ≡ Some x)
+there None e = absurd (true≢false (sym e))
+there (Some x) e = (x, refl)
 
-  decompose_is : decompose_request (value_of uses) ≡ decompose_by (value_of uses option.Table)
-      (value_of uses option.Mass) (value_of uses option.Da) (value_of uses option.Alphabet)
-  unfolding decompose_request
-  decompose_is = refl
+module _ (values : Values) where
+  -- a value of this option is a number
+  abbrev pub IsNumber : OptionName → Type 0
+  IsNumber option = (value : Bytes) → is_outside (kind option) value ≡ is_none (number_within (kind option) value)
 
-  abbrev envelope_by : Option Bytes → Option Bytes → Option Bytes → Result Request WordsFault
-  envelope_by table formula coverage = or_fault Words table >>= λ table. or_fault Words formula
-      >>= λ formula. or_fault Words coverage >>= λ coverage.
-      option_number option.Coverage coverage >>= λ coverage. Ok (Envelope table formula coverage)
+  -- the number of an option is there exactly where the option is given
+  pub number_given : (option : OptionName) → IsNumber option → has_value_outside values option ≡ false
+      → is_some (number_of values option) ≡ is_some (values option)
+  number_given option numeric inside = go (values option) inside
+    where
+      some : (n : Option ℕ) → is_none n ≡ false → is_some n ≡ true
+      some None e = absurd (true≢false e)
+      some (Some n) e = refl
 
-  envelope_is : envelope_request (value_of uses) ≡ envelope_by (value_of uses option.Table)
-      (value_of uses option.Formula) (value_of uses option.Coverage)
-  unfolding envelope_request
-  envelope_is = refl
+      go : (given : Option Bytes) → option_map_or (is_outside (kind option)) given false ≡ false
+          → is_some (option_and_then (number_within (kind option)) given) ≡ is_some given
+      go None e = refl
+      go (Some value) e = some (number_within (kind option) value) (sym (numeric value) ∙ e)
 
-  -- whether the options of `decompose` are given
-  given_decompose : (t m d a : Bool) → is_some (value_of uses option.Table) ≡ t → is_some (value_of uses option.Mass)
-      ≡ m
-      → is_some (value_of uses option.Da) ≡ d → is_some (value_of uses option.Alphabet) ≡ a
-      → has_required_options command.Decompose uses ≡ (t && (m && (d && (a && true))))
-  given_decompose t m d a et em ed ea = λ i. et i && (em i && (ed i && (ea i && true)))
+  -- the options go together, and none has a value outside its range
+  pub record AreGood (command : CommandName) : Type 0 where
+    pub together : go_together command values ≡ true
+    pub inside : first_outside command values ≡ None
 
-  given_envelope : (t f c : Bool) → is_some (value_of uses option.Table) ≡ t → is_some (value_of uses option.Formula)
-      ≡ f
-      → is_some (value_of uses option.Coverage) ≡ c → has_required_options command.Envelope uses
-      ≡ (t && (f && (c && true)))
-  given_envelope t f c et ef ec = λ i. et i && (ef i && (ec i && true))
+  pub given : (command : CommandName) → AreGood command
+      → AllByRecursion (λ option. is_some (values option) ≡ true) (required_options command)
+  given command good = all_pass (λ option. is_some (values option)) (required_options command)
+      (and_parts _ _ good.together).0
 
-  -- the first option of `decompose` outside its range
-  outside_decompose : (table mass da alphabet : Bytes) → value_of uses option.Table ≡ Some table
-      → value_of uses option.Mass ≡ Some mass
-      → value_of uses option.Da ≡ Some da → value_of uses option.Alphabet ≡ Some alphabet → (m d : Option ℕ)
-      → number_within (kind option.Mass) mass ≡ m
-      → number_within (kind option.Da) da ≡ d
-      → find (has_value_outside uses) (options command.Decompose)
-      ≡ first_outside ((is_none m, option.Mass) ∷ (is_none d, option.Da) ∷ [])
-  outside_decompose table mass da alphabet et em ed ea m d nm nd = λ i.
-      first_outside ((outside_by uses option.Table table et i, option.Table) ∷ (
-        (outside_by uses option.Mass mass em
-            ∙ ap is_none nm) i,
-        option.Mass,
+  pub ones : (command : CommandName) → AreGood command
+      → AllByRecursion (λ group. has_one values group ≡ true) (groups command)
+  ones command good = all_pass (has_one values) (groups command) (and_parts _ _ (and_parts _ _ good.together).1).0
+
+  pub companions : (command : CommandName) → AreGood command
+      → AllByRecursion (λ option. has_companion values option ≡ true) (options command)
+  companions command good = all_pass (has_companion values) (options command)
+      (and_parts _ _ (and_parts _ _ good.together).1).1
+
+  pub insides : (command : CommandName) → AreGood command
+      → AllByRecursion (λ option. has_value_outside values option ≡ false) (options command)
+  insides command good = none_passes (has_value_outside values) (options command) good.inside
+
+  -- the text of a given option, and of an option with a default
+  text_given : (option : OptionName) → is_some (values option) ≡ true
+      → (text : Bytes) × (text_of values option ≡ Some text)
+  text_given option e = let found = there (values option) e in
+      (found.0, ap (λ given. option_or given (default_text option)) found.1)
+
+  text_or : (option : OptionName) (default : Bytes) → default_text option ≡ Some default
+      → (text : Bytes) × (text_of values option ≡ Some text)
+  text_or option default e = go (values option)
+    where
+      go : (given : Option Bytes) → (text : Bytes) × (option_or given (default_text option) ≡ Some text)
+      go None = (default, e)
+      go (Some text) = (text, refl)
+
+  -- of one of three, the first there is
+  first_there : (a b c : Option ℕ) → (count_by (λ given. given) (is_some a ∷ is_some b ∷ is_some c ∷ []) == 1) ≡ true
+      → (allowed : Tolerance) × (option_or (option_map tolerance.Ppm a) (option_or (option_map tolerance.Da b)
+      (option_map tolerance.PpmCalculated c)) ≡ Some allowed)
+  first_there (Some a) b c e = (tolerance.Ppm a, refl)
+  first_there None (Some b) c e = (tolerance.Da b, refl)
+  first_there None None (Some c) e = (tolerance.PpmCalculated c, refl)
+  first_there None None None e = absurd (true≢false (sym e))
+
+  -- a request of the values, where they are good
+  decompose_values : AreGood command.Decompose → (request : Request) × IsRequestOf command.Decompose values request
+  decompose_values good =
+      let texts = given command.Decompose good in
+      let inside = insides command.Decompose good in
+      let table = text_given option.Table texts.0 in
+      let alphabet = text_given option.Alphabet texts.1.0 in
+      let adduct = text_or option.Adduct _ refl in
+      let rules = text_or option.Rules _ refl in
+      let allowed = first_there _ _ _ (rw (
+        number_given option.Ppm (λ _. refl) inside.1.1.1.0,
+        number_given option.Da (λ _. refl) inside.1.1.1.1.0,
+        number_given option.PpmCalc (λ _. refl) inside.1.1.1.1.1.0,
+      ) (ones command.Decompose good).1.0) in (
+        Decompose table.0 (number_of values option.Mass) (values option.Peaks) allowed.0 alphabet.0 adduct.0 rules.0
+            (number_of values option.Limit) (values option.After),
+        (table.1, refl, refl, allowed.1, alphabet.1, adduct.1, rules.1, refl, refl),
       )
-      ∷ ((outside_by uses option.Da da ed ∙ ap is_none nd) i, option.Da) ∷
-      (outside_by uses option.Alphabet alphabet ea i, option.Alphabet) ∷ [])
 
-  outside_envelope : (table formula coverage : Bytes) → value_of uses option.Table ≡ Some table
-      → value_of uses option.Formula ≡ Some formula
-      → value_of uses option.Coverage ≡ Some coverage → (c : Option ℕ) → number_within (kind option.Coverage) coverage
-      ≡ c
-      → find (has_value_outside uses) (options command.Envelope) ≡ first_outside ((is_none c, option.Coverage) ∷ [])
-  outside_envelope table formula coverage et ef ec c nc = λ i.
-      first_outside ((outside_by uses option.Table table et i, option.Table) ∷
-      (outside_by uses option.Formula formula ef i, option.Formula)
-      ∷ ((outside_by uses option.Coverage coverage ec ∙ ap is_none nc) i, option.Coverage) ∷ [])
+  envelope_values : AreGood command.Envelope → (request : Request) × IsRequestOf command.Envelope values request
+  envelope_values good =
+      let texts = given command.Envelope good in
+      let inside = insides command.Envelope good in
+      let table = text_given option.Table texts.0 in
+      let adduct = text_or option.Adduct _ refl in
+      let formula = text_given option.Formula texts.1.0 in
+      let coverage = there (number_of values option.Coverage)
+      (number_given option.Coverage (λ _. refl) inside.1.1.1.1.0 ∙ texts.1.1.0) in (
+        Envelope table.0 (values option.Tracer) adduct.0 formula.0 coverage.0,
+        (table.1, refl, adduct.1, formula.1, coverage.1),
+      )
 
-  decompose_numbers : (table mass da alphabet : Bytes) → value_of uses option.Table ≡ Some table
-      → value_of uses option.Mass ≡ Some mass
-      → value_of uses option.Da ≡ Some da → value_of uses option.Alphabet ≡ Some alphabet → (m d : Option ℕ)
-      → number_within (kind option.Mass) mass ≡ m
-      → number_within (kind option.Da) da ≡ d
-      → UsesAsk command.Decompose uses (or_fault (Value 2) m >>= λ mass. or_fault (Value 3) d
-      >>= λ da. Ok (Decompose table mass (tolerance.Da da) alphabet))
-  decompose_numbers table mass da alphabet et em ed ea None d nm nd = (
-    given_decompose true true true true (ap is_some et) (ap is_some em) (ap is_some ed) (ap is_some ea),
-    (option.Mass, outside_decompose table mass da alphabet et em ed ea None d nm nd, refl),
-  )
-  decompose_numbers table mass da alphabet et em ed ea (Some m) None nm nd = (
-    given_decompose true true true true (ap is_some et) (ap is_some em) (ap is_some ed) (ap is_some ea),
-    (option.Da, outside_decompose table mass da alphabet et em ed ea (Some m) None nm nd, refl),
-  )
-  decompose_numbers table mass da alphabet et em ed ea (Some m) (Some d) nm nd =
-      (et, number_by uses option.Mass mass em ∙ nm, (d, number_by uses option.Da da ed ∙ nd, refl), ea)
+  values_fields : (command : CommandName) → AreGood command → (request : Request) × IsRequestOf command values request
+  values_fields command.Decompose good = decompose_values good
+  values_fields command.Envelope good = envelope_values good
 
-  decompose_asks : (t m d a : Option Bytes) → value_of uses option.Table ≡ t → value_of uses option.Mass ≡ m
-      → value_of uses option.Da ≡ d
-      → value_of uses option.Alphabet ≡ a → UsesAsk command.Decompose uses (decompose_by t m d a)
-  decompose_asks None m d a et em ed ea = given_decompose false (is_some m) (is_some d) (is_some a) (ap is_some et)
-      (ap is_some em) (ap is_some ed) (ap is_some ea)
-  decompose_asks (Some t) None d a et em ed ea = given_decompose true false (is_some d) (is_some a) (ap is_some et)
-      (ap is_some em) (ap is_some ed) (ap is_some ea)
-  decompose_asks (Some t) (Some m) None a et em ed ea = given_decompose true true false (is_some a) (ap is_some et)
-      (ap is_some em) (ap is_some ed) (ap is_some ea)
-  decompose_asks (Some t) (Some m) (Some d) None et em ed ea = given_decompose true true true false (ap is_some et)
-      (ap is_some em) (ap is_some ed) (ap is_some ea)
-  decompose_asks (Some t) (Some m) (Some d) (Some a) et em ed ea =
-      decompose_numbers t m d a et em ed ea (number_within (kind option.Mass) m)
-      (number_within (kind option.Da) d) refl refl
-
-  envelope_numbers : (table formula coverage : Bytes) → value_of uses option.Table ≡ Some table
-      → value_of uses option.Formula ≡ Some formula
-      → value_of uses option.Coverage ≡ Some coverage → (c : Option ℕ) → number_within (kind option.Coverage) coverage
-      ≡ c
-      → UsesAsk command.Envelope uses (or_fault (Value 6) c >>= λ coverage. Ok (Envelope table formula coverage))
-  envelope_numbers table formula coverage et ef ec None nc = (
-    given_envelope true true true (ap is_some et) (ap is_some ef) (ap is_some ec),
-    (option.Coverage, outside_envelope table formula coverage et ef ec None nc, refl),
-  )
-  envelope_numbers table formula coverage et ef ec (Some c) nc = (
-    et,
-    ef,
-    number_by uses option.Coverage coverage ec
-        ∙ nc,
-  )
-
-  envelope_asks : (t f c : Option Bytes) → value_of uses option.Table ≡ t → value_of uses option.Formula ≡ f
-      → value_of uses option.Coverage ≡ c
-      → UsesAsk command.Envelope uses (envelope_by t f c)
-  envelope_asks None f c et ef ec = given_envelope false (is_some f) (is_some c) (ap is_some et) (ap is_some ef)
-      (ap is_some ec)
-  envelope_asks (Some t) None c et ef ec = given_envelope true false (is_some c) (ap is_some et) (ap is_some ef)
-      (ap is_some ec)
-  envelope_asks (Some t) (Some f) None et ef ec = given_envelope true true false (ap is_some et) (ap is_some ef)
-      (ap is_some ec)
-  envelope_asks (Some t) (Some f) (Some c) et ef ec =
-      envelope_numbers t f c et ef ec (number_within (kind option.Coverage) c) refl
-
-  pub command_asks : (command : CommandName) → UsesAsk command uses (command_request command (value_of uses))
+  -- it is the one that is computed
+  fields_are : (command : CommandName) (request : Request) → IsRequestOf command values request
+      → fields_request command values ≡ Ok request
   unfolding decompose_request envelope_request
-  command_asks command.Decompose = decompose_asks (value_of uses option.Table) (value_of uses option.Mass)
-      (value_of uses option.Da) (value_of uses option.Alphabet) refl refl refl refl
-  command_asks command.Envelope = envelope_asks (value_of uses option.Table) (value_of uses option.Formula)
-      (value_of uses option.Coverage) refl refl refl
+  fields_are command.Decompose (Decompose table mass peaks allowed alphabet adduct rules limit after) is =
+      λ i. or_fault Words (is.0 i) >>= λ table. or_fault Words (is.3 i) >>= λ allowed. or_fault Words (is.4 i)
+      >>= λ alphabet. or_fault Words (is.5 i) >>= λ adduct. or_fault Words (is.6 i) >>= λ rules.
+      Ok (Decompose table (sym is.1 i) (sym is.2 i) allowed alphabet adduct rules (sym is.7 i) (sym is.8 i))
+  fields_are command.Envelope (Envelope table tracer adduct formula coverage) is =
+      λ i. or_fault Words (is.0 i) >>= λ table. or_fault Words (is.2 i) >>= λ adduct. or_fault Words (is.3 i)
+      >>= λ formula. or_fault Words (is.4 i) >>= λ coverage. Ok (Envelope table (sym is.1 i) adduct formula coverage)
+  fields_are command.Decompose (Envelope table tracer adduct formula coverage) is = absurd is
+  fields_are command.Envelope (Decompose table mass peaks allowed alphabet adduct rules limit after) is = absurd is
 
-  -- ---- and nothing else is asked for
+  answer_is : (command : CommandName) (b : Bool) (outside : Option OptionName) → go_together command values ≡ b
+      → first_outside command values ≡ outside
+      → values_request command values ≡ answer_by b outside (fields_request command values)
+  answer_is command b outside together first = λ i. answer_by (together i) (first i) (fields_request command values)
 
-  -- the answer, where the values of `decompose` are in their ranges or not
-  number_fault : (m d : Option ℕ) (table alphabet : Bytes) (n : ℕ) (first : OptionName)
-      → first_outside ((is_none m, option.Mass) ∷ (is_none d, option.Da) ∷ []) ≡ Some first → n ≡ number first
-      → Err (Value n) ≡ (or_fault (Value 2) m >>= λ mass. or_fault (Value 3) d
-      >>= λ da. Ok (Decompose table mass (tolerance.Da da) alphabet))
-  number_fault None d table alphabet n first e is = ap (λ k. Err (Value k)) (is
-      ∙ ap number (sym (some-same option.Mass first e)))
-  number_fault (Some m) None table alphabet n first e is = ap (λ k. Err (Value k)) (is
-      ∙ ap number (sym (some-same option.Da first e)))
-  number_fault (Some m) (Some d) table alphabet n first e is = absurd (none-some first e)
+  pub values_ask : (command : CommandName) → ValuesAsk command values (values_request command values)
+  values_ask command = go (go_together command values) (first_outside command values) refl refl
+    where
+      go : (b : Bool) (outside : Option OptionName) → go_together command values ≡ b
+          → first_outside command values ≡ outside → ValuesAsk command values (values_request command values)
+      go false outside apart first =
+          subst (ValuesAsk command values) (sym (answer_is command false outside apart first)) apart
+      go true (Some option) together first =
+          subst (ValuesAsk command values) (sym (answer_is command true (Some option) together first))
+          (together, (option, first, refl))
+      go true None together first =
+          let request = values_fields command (record { together = together; inside = first }) in
+          subst (ValuesAsk command values) (sym (answer_is command true None together first
+          ∙ fields_are command request.0 request.1)) (together, first, request.1)
 
-  coverage_fault : (c : Option ℕ) (table formula : Bytes) (n : ℕ) (first : OptionName)
-      → first_outside ((is_none c, option.Coverage) ∷ []) ≡ Some first → n ≡ number first
-      → Err (Value n) ≡ (or_fault (Value 6) c >>= λ coverage. Ok (Envelope table formula coverage))
-  coverage_fault None table formula n first e is = ap (λ k. Err (Value k)) (is
-      ∙ ap number (sym (some-same option.Coverage first e)))
-  coverage_fault (Some c) table formula n first e is = absurd (none-some first e)
-
-  decompose_only : (answer : Result Request WordsFault) (t m d a : Option Bytes) → value_of uses option.Table ≡ t
-      → value_of uses option.Mass ≡ m
-      → value_of uses option.Da ≡ d → value_of uses option.Alphabet ≡ a → UsesAsk command.Decompose uses answer
-      → answer ≡ decompose_by t m d a
-  decompose_only (Ok (Envelope table formula coverage)) t m d a et em ed ea ask = absurd ask
-  decompose_only (Ok (Decompose table mass allowed alphabet)) None m d a et em ed ea ask =
-      absurd (none-some table (sym et ∙ ask.0))
-  decompose_only (Ok (Decompose table mass allowed alphabet)) (Some t) None d a et em ed ea ask =
-      absurd (none-some mass (sym (ap (λ given. option_and_then (number_within (kind option.Mass)) given) em) ∙ ask.1))
-  decompose_only (Ok (Decompose table mass allowed alphabet)) (Some t) (Some m) None a et em ed ea ask =
-      absurd (none-some ask.2.0 (sym (ap (λ given. option_and_then (number_within (kind option.Da)) given) ed)
-      ∙ ask.2.1))
-  decompose_only (Ok (Decompose table mass allowed alphabet)) (Some t) (Some m) (Some d) None et em ed ea ask =
-      absurd (none-some alphabet (sym ea ∙ ask.3))
-  decompose_only (Ok (Decompose table mass allowed alphabet)) (Some t) (Some m) (Some d) (Some a) et em ed ea ask =
-      let mass_is = sym (number_by uses option.Mass m em) ∙ ask.1 in
-      let da_is = sym (number_by uses option.Da d ed) ∙ ask.2.1 in
-      (λ i. Ok (Decompose (some-same table t (sym ask.0 ∙ et) i) mass (ask.2.2 i) (some-same alphabet a (sym ask.3
-      ∙ ea) i)))
-      ∙ sym (λ i. or_fault (Value 2) (mass_is i) >>= λ mass. or_fault (Value 3) (da_is i)
-      >>= λ da. Ok (Decompose t mass (tolerance.Da da) a))
-  decompose_only (Err Words) None m d a et em ed ea ask = refl
-  decompose_only (Err Words) (Some t) None d a et em ed ea ask = refl
-  decompose_only (Err Words) (Some t) (Some m) None a et em ed ea ask = refl
-  decompose_only (Err Words) (Some t) (Some m) (Some d) None et em ed ea ask = refl
-  decompose_only (Err Words) (Some t) (Some m) (Some d) (Some a) et em ed ea ask =
-      absurd (true≢false (sym (given_decompose true true true true (ap is_some et) (ap is_some em) (ap is_some ed)
-      (ap is_some ea)) ∙ ask))
-  decompose_only (Err (Value n)) None m d a et em ed ea ask =
-      absurd (true≢false (sym ask.0 ∙ given_decompose false (is_some m) (is_some d) (is_some a) (ap is_some et)
-      (ap is_some em) (ap is_some ed) (ap is_some ea)))
-  decompose_only (Err (Value n)) (Some t) None d a et em ed ea ask =
-      absurd (true≢false (sym ask.0 ∙ given_decompose true false (is_some d) (is_some a) (ap is_some et) (ap is_some em)
-      (ap is_some ed) (ap is_some ea)))
-  decompose_only (Err (Value n)) (Some t) (Some m) None a et em ed ea ask =
-      absurd (true≢false (sym ask.0 ∙ given_decompose true true false (is_some a) (ap is_some et) (ap is_some em)
-      (ap is_some ed) (ap is_some ea)))
-  decompose_only (Err (Value n)) (Some t) (Some m) (Some d) None et em ed ea ask =
-      absurd (true≢false (sym ask.0 ∙ given_decompose true true true false (ap is_some et) (ap is_some em)
-      (ap is_some ed) (ap is_some ea)))
-  decompose_only (Err (Value n)) (Some t) (Some m) (Some d) (Some a) et em ed ea ask =
-      number_fault (number_within (kind option.Mass) m) (number_within (kind option.Da) d) t a n ask.1.0
-      (sym (outside_decompose t m d a et em ed ea _ _ refl refl) ∙ ask.1.1) ask.1.2
-  decompose_only (Err Memory) t m d a et em ed ea ask = absurd ask
-
-  envelope_only : (answer : Result Request WordsFault) (t f c : Option Bytes) → value_of uses option.Table ≡ t
-      → value_of uses option.Formula ≡ f
-      → value_of uses option.Coverage ≡ c → UsesAsk command.Envelope uses answer → answer ≡ envelope_by t f c
-  envelope_only (Ok (Decompose table mass allowed alphabet)) t f c et ef ec ask = absurd ask
-  envelope_only (Ok (Envelope table formula coverage)) None f c et ef ec ask = absurd (none-some table (sym et ∙ ask.0))
-  envelope_only (Ok (Envelope table formula coverage)) (Some t) None c et ef ec ask =
-      absurd (none-some formula (sym ef ∙ ask.1))
-  envelope_only (Ok (Envelope table formula coverage)) (Some t) (Some f) None et ef ec ask =
-      absurd (none-some coverage (sym (ap (λ given. option_and_then (number_within (kind option.Coverage)) given) ec)
-      ∙ ask.2))
-  envelope_only (Ok (Envelope table formula coverage)) (Some t) (Some f) (Some c) et ef ec ask =
-      let coverage_is = sym (number_by uses option.Coverage c ec) ∙ ask.2 in
-      (λ i. Ok (Envelope (some-same table t (sym ask.0 ∙ et) i) (some-same formula f (sym ask.1 ∙ ef) i) coverage))
-      ∙ sym (λ i. or_fault (Value 6) (coverage_is i) >>= λ coverage. Ok (Envelope t f coverage))
-  envelope_only (Err Words) None f c et ef ec ask = refl
-  envelope_only (Err Words) (Some t) None c et ef ec ask = refl
-  envelope_only (Err Words) (Some t) (Some f) None et ef ec ask = refl
-  envelope_only (Err Words) (Some t) (Some f) (Some c) et ef ec ask =
-      absurd (true≢false (sym (given_envelope true true true (ap is_some et) (ap is_some ef) (ap is_some ec)) ∙ ask))
-  envelope_only (Err (Value n)) None f c et ef ec ask =
-      absurd (true≢false (sym ask.0 ∙ given_envelope false (is_some f) (is_some c) (ap is_some et) (ap is_some ef)
-      (ap is_some ec)))
-  envelope_only (Err (Value n)) (Some t) None c et ef ec ask =
-      absurd (true≢false (sym ask.0 ∙ given_envelope true false (is_some c) (ap is_some et) (ap is_some ef)
-      (ap is_some ec)))
-  envelope_only (Err (Value n)) (Some t) (Some f) None et ef ec ask =
-      absurd (true≢false (sym ask.0 ∙ given_envelope true true false (ap is_some et) (ap is_some ef) (ap is_some ec)))
-  envelope_only (Err (Value n)) (Some t) (Some f) (Some c) et ef ec ask =
-      coverage_fault (number_within (kind option.Coverage) c) t f n ask.1.0
-      (sym (outside_envelope t f c et ef ec _ refl) ∙ ask.1.1) ask.1.2
-  envelope_only (Err Memory) t f c et ef ec ask = absurd ask
-
-  pub command_only : (command : CommandName) (answer : Result Request WordsFault) → UsesAsk command uses answer
-      → answer ≡ command_request command (value_of uses)
-  unfolding decompose_request envelope_request
-  command_only command.Decompose answer ask = decompose_only answer _ _ _ _ refl refl refl refl ask
-  command_only command.Envelope answer ask = envelope_only answer _ _ _ refl refl refl ask
+  pub values_only : (command : CommandName) (answer : Result Request WordsFault) → ValuesAsk command values answer
+      → answer ≡ values_request command values
+  values_only command (Ok request) (together, first, is) =
+      sym (answer_is command true None together first ∙ fields_are command request is)
+  values_only command (Err Words) apart = sym (answer_is command false (first_outside command values) apart refl)
+  values_only command (Err (Value n)) (together, (option, first, is)) =
+      ap (λ k. Err (Value k)) is ∙ sym (answer_is command true (Some option) together first)
+  values_only command (Err Memory) ask = absurd ask
 
 -- ---- the words
 
+plain_name : (option : OptionName) → is_plain (name option) ≡ true
+plain_name option.Table = refl
+plain_name option.Tracer = refl
+plain_name option.Mass = refl
+plain_name option.Peaks = refl
+plain_name option.Ppm = refl
+plain_name option.Da = refl
+plain_name option.PpmCalc = refl
+plain_name option.Alphabet = refl
+plain_name option.Adduct = refl
+plain_name option.Rules = refl
+plain_name option.Formula = refl
+plain_name option.Coverage = refl
+plain_name option.Limit = refl
+plain_name option.After = refl
+
+plain_each : (options : List OptionName) → AllByRecursion (λ name. is_plain name ≡ true) (map name options)
+plain_each [] = tt
+plain_each (option ∷ options) = (plain_name option, plain_each options)
+
 plain_names : (command : CommandName) → AllByRecursion (λ name. is_plain name ≡ true) (names command)
-plain_names command.Decompose = (refl, (refl, (refl, (refl, tt))))
-plain_names command.Envelope = (refl, (refl, (refl, tt)))
+plain_names command = plain_each (options command)
 
 -- the request of words with this command and these uses
 pub request_of-uses : (first : Bytes) (words : List Bytes) (command : CommandName) (uses : List Use)
     → command_of first ≡ Some command
-    → uses_of (names command) words ≡ Some uses → request_of (first ∷ words) ≡ command_request command (value_of uses)
+    → uses_of (names command) words ≡ Some uses → request_of (first ∷ words) ≡ values_request command (value_of uses)
 unfolding request_of
 request_of-uses first words command uses named read =
     ap (λ o. or_fault Words o >>= λ c. or_fault Words (uses_of (names c) words)
-    >>= λ given. command_request c (value_of given)) named
-    ∙ ap (λ o. or_fault Words o >>= λ given. command_request command (value_of given)) read
+    >>= λ given. values_request c (value_of given)) named
+    ∙ ap (λ o. or_fault Words o >>= λ given. values_request command (value_of given)) read
 
 pub request_of-no_uses : (first : Bytes) (words : List Bytes) (command : CommandName) → command_of first ≡ Some command
     → uses_of (names command) words ≡ None → request_of (first ∷ words) ≡ Err Words
 unfolding request_of
 request_of-no_uses first words command named read =
     ap (λ o. or_fault Words o >>= λ c. or_fault Words (uses_of (names c) words)
-    >>= λ given. command_request c (value_of given)) named
-    ∙ ap (λ o. or_fault Words o >>= λ given. command_request command (value_of given)) read
+    >>= λ given. values_request c (value_of given)) named
+    ∙ ap (λ o. or_fault Words o >>= λ given. values_request command (value_of given)) read
 
 pub request_of-no_command : (first : Bytes) (words : List Bytes) → command_of first ≡ None
     → request_of (first ∷ words) ≡ Err Words
 unfolding request_of
 request_of-no_command first words named =
     ap (λ o. or_fault Words o >>= λ c. or_fault Words (uses_of (names c) words)
-    >>= λ given. command_request c (value_of given)) named
+    >>= λ given. values_request c (value_of given)) named
 
 -- words that are read as uses are readable
 pub unreadable : (command : CommandName) (words : List Bytes) → list_all is_readable words ≡ false
@@ -347,8 +288,8 @@ asks-request_of (first ∷ words) = go (command_of first) refl
           command,
           uses,
           (named, record { says = sound.0; uses_of_its_options = sound.1 }),
-          subst (UsesAsk command uses) (sym (request_of-uses first words command uses named read))
-              (command_asks uses command),
+          subst (ValuesAsk command (value_of uses)) (sym (request_of-uses first words command uses named read))
+              (values_ask (value_of uses) command),
         )
 
     go : (o : Option CommandName) → command_of first ≡ o → Asks (first ∷ words) (request_of (first ∷ words))
@@ -364,7 +305,7 @@ unfolding request_of
 asks-only [] answer (inl (command, uses, reading, ask)) = absurd reading
 asks-only [] answer (inr (none, is)) = is
 asks-only (first ∷ words) answer (inl (command, uses, reading, ask)) =
-    command_only uses command answer ask
+    values_only (value_of uses) command answer ask
     ∙ sym (request_of-uses first words command uses reading.0
     (reading_uses first words command command uses reading.0 reading).1)
 asks-only (first ∷ words) answer (inr (none, is)) = is ∙ sym (go (command_of first) refl)
@@ -395,17 +336,12 @@ first_of-uses id (given ∷ uses) = go (bytes_eq given.0 id) (first_of-uses id u
     go false e = e
 
 -- the request of a command's matches is that of the words
-pub matched_request : (command : CommandName) (uses : List Use) (rows : List Row) → rows ≡ map row_of_use uses
-    → command_request command (λ option. first_of (name option) rows) ≡ command_request command (value_of uses)
-matched_request command uses rows is =
-    ap (λ all. command_request command (λ option. first_of (name option) all)) is
-    ∙ ap (command_request command) (λ i option. first_of-uses (name option) uses i)
-
 pub request_of-matches : (first : Bytes) (words : List Bytes) (command : CommandName) (uses : List Use)
-    (rows : List Row) → command_of first ≡ Some command
-    → uses_of (names command) words ≡ Some uses → rows ≡ map row_of_use uses
-    → command_request command (λ option. first_of (name option) rows) ≡ request_of (first ∷ words)
-request_of-matches first words command uses rows named read is = matched_request command uses rows is
+    (found : Found) → command_of first ≡ Some command
+    → uses_of (names command) words ≡ Some uses → rows_of found ≡ map row_of_use uses
+    → values_request command (matched found) ≡ request_of (first ∷ words)
+request_of-matches first words command uses found named read is =
+    ap (values_request command) (λ i option. (ap (first_of (name option)) is ∙ first_of-uses (name option) uses) i)
     ∙ sym (request_of-uses first words command uses named read)
 
 pub no_words : (words : List (String Global)) → length words ≡ 0 → request_of (map string_bytes words) ≡ Err Words

@@ -1,15 +1,19 @@
 -- The numbers of a request are in their ranges, and a fault numbers an option of the table.
-use Rattle.std.proofs.Common.{◌≡◌, ◌≤◌, ℕ, Bool, true, false, Option, Some, None, Result, Ok, Err, IfErr, IfOk, List, ap, arith, inl, inr, subst, sym}
+use Rattle.std.proofs.Common.{◌≡◌, ◌≤◌, ◌==◌, ◌||◌, ◌∙◌, not, ℕ, Bool, true, false, Option, Some, None, Result, Ok, Err, IfErr, IfOk, List, [], ◌∷◌, is_some, ap, arith, inl, inr, option_map, refl, subst, sym}
+use Rattle.std.specs.List.{count_by}
 use Rattle.std.specs.Prelude.{option_and_then}
+use Rattle.std.specs.Option.{option_or}
 use Rattle.std.proofs.lemmas.Bool.{true≢false}
 use Rattle.std.proofs.lemmas.Option.{none-some}
-use Rattle.fixed_decimal.specs.Decimal.{decimal_within}
-use Rattle.fixed_decimal.proofs.NumbersInRange.{decimal_within-range}
+use Rattle.fixed_decimal.proofs.NumbersInRange.{decimal_within-range, whole_within-range}
 use Rattle.reader_answers.specs.Answers.{Gives}
-use Rattle.mass_scaling.specs.declared.limits.TheConstants.{MAX_MZ, MAX_DA}
+use Rattle.mass_scaling.specs.Limits.{IsTolerance}
+use Rattle.mass_scaling.specs.declared.limits.TheConstants.{MAX_MZ, MAX_DA, MAX_PPM}
+use Rattle.mass_scaling.specs.declared.tolerances.Tolerance.{Tolerance}
+use Rattle.mass_scaling.specs.declared.tolerances.Tolerance.TheVariants as tolerance
 use Rattle.command_words.specs.Options.{Bytes, number}
-use Rattle.command_words.specs.Requests.{Asks, HasRanges, IsOfTable, IsRequestOf}
-use Rattle.command_words.specs.Uses.{Use, value_of}
+use Rattle.command_words.specs.Requests.{Asks, GoWithMass, HasMassOrPeaks, HasRanges, IsOfTable, IsRequestOf, IsWithin, Values}
+use Rattle.command_words.specs.Uses.{value_of}
 use Rattle.command_words.specs.WordReading.{is_memory}
 use Rattle.command_words.specs.declared.commands.CommandName.{CommandName}
 use Rattle.command_words.specs.declared.commands.CommandName.TheVariants as command
@@ -17,33 +21,89 @@ use Rattle.command_words.specs.declared.fault.WordsFault.{WordsFault}
 use Rattle.command_words.specs.declared.fault.WordsFault.TheVariants.{Words, Value, Memory}
 use Rattle.command_words.specs.declared.options.OptionName.{OptionName}
 use Rattle.command_words.specs.declared.options.OptionName.TheVariants as option
-use Rattle.command_words.specs.declared.options.TheConstants.{MIN_MZ, MIN_COVERAGE, MAX_COVERAGE, OPTION_COUNT}
+use Rattle.command_words.specs.declared.options.TheConstants.{MIN_MZ, MIN_COVERAGE, MAX_COVERAGE, MIN_LIMIT, MAX_LIMIT, OPTION_COUNT}
 use Rattle.command_words.specs.declared.request.Request.{Request}
 use Rattle.command_words.specs.declared.request.Request.TheVariants.{Decompose, Envelope}
+use Rattle.command_words.proofs.AskedRequests.{AreGood, companions, insides, number_given, ones, some-same}
 
-number_range : (D low high n : ℕ) (given : Option Bytes) → option_and_then (decimal_within D low high) given ≡ Some n
-    → (low ≤ n) × (n ≤ high)
-number_range D low high n None e = absurd (none-some n e)
-number_range D low high n (Some text) e = decimal_within-range D low high text n e
+-- texts have numbers in this range alone
+abbrev Ranges : (Bytes → Option ℕ) → ℕ → ℕ → Type 0
+Ranges read low high = (text : Bytes) (n : ℕ) → read text ≡ Some n → (low ≤ n) × (n ≤ high)
 
-request_ranges : (command : CommandName) (uses : List Use) (request : Request) → IsRequestOf command uses request
-    → HasRanges request
-request_ranges command.Decompose uses (Decompose table mass allowed alphabet) is =
-    let masses = number_range 12 MIN_MZ MAX_MZ mass (value_of uses option.Mass) is.1 in
-    let das = number_range 12 0 MAX_DA is.2.0 (value_of uses option.Da) is.2.1 in
-    subst (λ t. HasRanges (Decompose table mass t alphabet)) (sym is.2.2) (masses.0, masses.1, das.1)
-request_ranges command.Decompose uses (Envelope table formula coverage) is = absurd is
-request_ranges command.Envelope uses (Decompose table mass allowed alphabet) is = absurd is
-request_ranges command.Envelope uses (Envelope table formula coverage) is =
-    number_range 18 MIN_COVERAGE MAX_COVERAGE coverage (value_of uses option.Coverage) is.2
+number_range : (read : Bytes → Option ℕ) (low high : ℕ) → Ranges read low high → (given : Option Bytes) (n : ℕ)
+    → option_and_then read given ≡ Some n → (low ≤ n) × (n ≤ high)
+number_range read low high ranges None n e = absurd (none-some n e)
+number_range read low high ranges (Some text) n e = ranges text n e
+
+within : (low high : ℕ) (number : Option ℕ) → ((n : ℕ) → number ≡ Some n → (low ≤ n) × (n ≤ high))
+    → IsWithin low high number
+within low high None range = tt
+within low high (Some n) range = range n refl
+
+tolerance_range : (a b c : Option ℕ) (allowed : Tolerance) → ((n : ℕ) → a ≡ Some n → (0 ≤ n) × (n ≤ MAX_PPM))
+    → ((n : ℕ) → b ≡ Some n → (0 ≤ n) × (n ≤ MAX_DA)) → ((n : ℕ) → c ≡ Some n → (0 ≤ n) × (n ≤ MAX_PPM))
+    → option_or (option_map tolerance.Ppm a) (option_or (option_map tolerance.Da b)
+    (option_map tolerance.PpmCalculated c)) ≡ Some allowed → IsTolerance allowed
+tolerance_range (Some n) b c allowed ra rb rc e = subst IsTolerance (some-same _ _ e) (ra n refl).1
+tolerance_range None (Some n) c allowed ra rb rc e = subst IsTolerance (some-same _ _ e) (rb n refl).1
+tolerance_range None None (Some n) allowed ra rb rc e = subst IsTolerance (some-same _ _ e) (rc n refl).1
+tolerance_range None None None allowed ra rb rc e = absurd (none-some allowed e)
+
+mass_or_peaks : (mass : Option ℕ) (peaks : Option Bytes)
+    → (count_by (λ given. given) (is_some mass ∷ is_some peaks ∷ []) == 1) ≡ true → HasMassOrPeaks mass peaks
+mass_or_peaks (Some mass) None e = tt
+mass_or_peaks None (Some peaks) e = tt
+mass_or_peaks None None e = absurd (true≢false (sym e))
+mass_or_peaks (Some mass) (Some peaks) e = absurd (true≢false (sym e))
+
+go_with_mass : (mass limit : Option ℕ) (after : Option Bytes) → (not (is_some limit) || is_some mass) ≡ true
+    → (not (is_some after) || is_some mass) ≡ true → GoWithMass mass limit after
+go_with_mass (Some mass) limit after e f = tt
+go_with_mass None None None e f = (refl, refl)
+go_with_mass None (Some limit) after e f = absurd (true≢false (sym e))
+go_with_mass None None (Some after) e f = absurd (true≢false (sym f))
+
+decompose_ranges : (values : Values) → AreGood values command.Decompose
+    → (request : Request) → IsRequestOf command.Decompose values request → HasRanges request
+decompose_ranges values good (Decompose table mass peaks allowed alphabet adduct rules limit after) is =
+    let inside = insides values command.Decompose good in
+    let pairs = companions values command.Decompose good in
+    let mass_given = ap is_some is.1 ∙ number_given values option.Mass (λ _. refl) inside.1.0 in
+    let limit_given = ap is_some is.7 ∙ number_given values option.Limit (λ _. refl)
+    inside.1.1.1.1.1.1.1.1.1.0 in (
+      mass_or_peaks mass peaks (rw (mass_given, is.2) (ones values command.Decompose good).0),
+      within MIN_MZ MAX_MZ mass (λ n e. number_range _ MIN_MZ MAX_MZ (decimal_within-range 12 MIN_MZ MAX_MZ) (values option.Mass) n (sym is.1 ∙ e)),
+      tolerance_range _ _ _ allowed (number_range _ 0 MAX_PPM (decimal_within-range 3 0 MAX_PPM) (values option.Ppm))
+          (number_range _ 0 MAX_DA (decimal_within-range 12 0 MAX_DA) (values option.Da)) (number_range _ 0 MAX_PPM (decimal_within-range 3 0 MAX_PPM) (values option.PpmCalc)) is.3,
+      within MIN_LIMIT MAX_LIMIT limit (λ n e. number_range _ MIN_LIMIT MAX_LIMIT (whole_within-range MIN_LIMIT MAX_LIMIT) (values option.Limit) n (sym is.7 ∙ e)),
+      go_with_mass mass limit after (rw (mass_given, limit_given) pairs.1.1.1.1.1.1.1.1.1.0)
+          (rw (mass_given, is.8) pairs.1.1.1.1.1.1.1.1.1.1.0),
+    )
+decompose_ranges values good (Envelope table tracer adduct formula coverage) is = absurd is
+
+request_ranges : (command : CommandName) (values : Values) → AreGood values command
+    → (request : Request) → IsRequestOf command values request → HasRanges request
+request_ranges command.Decompose values good request is = decompose_ranges values good request is
+request_ranges command.Envelope values good (Envelope table tracer adduct formula coverage) is =
+    number_range _ MIN_COVERAGE MAX_COVERAGE (decimal_within-range 18 MIN_COVERAGE MAX_COVERAGE) (values option.Coverage) coverage is.4
+request_ranges command.Envelope values good (Decompose table mass peaks allowed alphabet adduct rules limit after) is =
+    absurd is
 
 numbers_of_table : (option : OptionName) → (1 ≤ number option) × (number option ≤ OPTION_COUNT)
 numbers_of_table option.Table = (omega arith, omega arith)
+numbers_of_table option.Tracer = (omega arith, omega arith)
 numbers_of_table option.Mass = (omega arith, omega arith)
+numbers_of_table option.Peaks = (omega arith, omega arith)
+numbers_of_table option.Ppm = (omega arith, omega arith)
 numbers_of_table option.Da = (omega arith, omega arith)
+numbers_of_table option.PpmCalc = (omega arith, omega arith)
 numbers_of_table option.Alphabet = (omega arith, omega arith)
+numbers_of_table option.Adduct = (omega arith, omega arith)
+numbers_of_table option.Rules = (omega arith, omega arith)
 numbers_of_table option.Formula = (omega arith, omega arith)
 numbers_of_table option.Coverage = (omega arith, omega arith)
+numbers_of_table option.Limit = (omega arith, omega arith)
+numbers_of_table option.After = (omega arith, omega arith)
 
 abbrev is_ok_answer : Result Request WordsFault → Bool
 is_ok_answer (Ok request) = true
@@ -54,7 +114,8 @@ is_value_fault (Err (Value n)) = true
 is_value_fault _ = false
 
 asked_ranges : (words : List Bytes) (request : Request) → Asks words (Ok request) → HasRanges request
-asked_ranges words request (inl (command, uses, reading, ask)) = request_ranges command uses request ask
+asked_ranges words request (inl (command, uses, reading, ask)) =
+    request_ranges command (value_of uses) (record { together = ask.0; inside = ask.1 }) request ask.2
 asked_ranges words request (inr (none, is)) = absurd (true≢false (ap is_ok_answer is))
 
 asked_numbers : (words : List Bytes) (fault : WordsFault) → Asks words (Err fault) → IsOfTable fault

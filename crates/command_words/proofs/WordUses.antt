@@ -32,6 +32,10 @@ or_parts : (a b : Bool) → (a || b) ≡ false → (a ≡ false) × (b ≡ false
 or_parts true b e = absurd (true≢false e)
 or_parts false b e = (refl, e)
 
+pub and_parts : (a b : Bool) → (a && b) ≡ true → (a ≡ true) × (b ≡ true)
+and_parts true b e = (refl, e)
+and_parts false b e = absurd (true≢false (sym e))
+
 or_both : (a b : Bool) → a ≡ false → b ≡ false → (a || b) ≡ false
 or_both a b e f = ap₂ (λ x y. x || y) e f
 
@@ -291,10 +295,6 @@ module _ (names : List Bytes) (plain : AllByRecursion (λ name. is_plain name �
 
   abbrev Found : List Use → List Use → List Bytes → Type 0
   Found seen every words = (uses : List Use) × (every ≡ seen ++ uses) × Reads seen uses words
-
-  and_parts : (a b : Bool) → (a && b) ≡ true → (a ≡ true) × (b ≡ true)
-  and_parts true b e = (refl, e)
-  and_parts false b e = absurd (true≢false (sym e))
 
   not_true : (a : Bool) → not a ≡ true → a ≡ false
   not_true true e = absurd (true≢false (sym e))

@@ -2,9 +2,11 @@
 -- with `request_of`.
 use Rattle.std.specs.Prelude.{ℕ, Bool, true, false, not, ◌&&◌, List, [], ◌∷◌, ◌++◌, Option, Some, None, Result, Ok, Err, if◌then◌else◌}
 use Rattle.clap.specs.Lexer.{long_of, long_of_rest}
+use Rattle.clap.specs.Walk.{first_of, rows_of}
+use Rattle.clap.specs.declared.parser.matches.Found.{Found}
 use Rattle.reader_answers.specs.Answers.{or_fault, ◌>>=◌}
-use Rattle.mass_scaling.specs.declared.tolerances.Tolerance.TheVariants as tolerance
-use Rattle.command_words.specs.Options.{Bytes, command_of, kind, number, number_within}
+use Rattle.command_words.specs.Options.{Bytes, command_of, name, number}
+use Rattle.command_words.specs.Requests.{Values, first_outside, go_together, number_of, text_of, tolerance_of}
 use Rattle.command_words.specs.Uses.{Use, has_name, has_use, is_value, names, value_of}
 use Rattle.command_words.specs.declared.commands.CommandName.{CommandName}
 use Rattle.command_words.specs.declared.commands.CommandName.TheVariants as command
@@ -60,29 +62,45 @@ uses_from names (word ∷ rest) seen waiting = with_word names word seen waiting
 abbrev pub uses_of : List Bytes → List Bytes → Option (List Use)
 uses_of names words = uses_from names words [] None
 
-abbrev pub option_text : (OptionName → Option Bytes) → OptionName → Result Bytes WordsFault
-option_text given option = or_fault Words (given option)
+-- what clap finds for each option
+abbrev pub matched : Found → Values
+matched found option = first_of (name option) (rows_of found)
 
-abbrev pub option_number : OptionName → Bytes → Result ℕ WordsFault
-option_number option value = or_fault (Value (number option)) (number_within (kind option) value)
+abbrev pub required_text : Values → OptionName → Result Bytes WordsFault
+required_text values option = or_fault Words (text_of values option)
 
-unfoldable pub decompose_request : (OptionName → Option Bytes) → Result Request WordsFault
-decompose_request given = option_text given option.Table >>= λ table. option_text given option.Mass >>= λ mass.
-    option_text given option.Da >>= λ da. option_text given option.Alphabet >>= λ alphabet.
-    option_number option.Mass mass >>= λ mass. option_number option.Da da >>= λ da.
-    Ok (Decompose table mass (tolerance.Da da) alphabet)
+abbrev pub required_number : Values → OptionName → Result ℕ WordsFault
+required_number values option = or_fault Words (number_of values option)
 
-unfoldable pub envelope_request : (OptionName → Option Bytes) → Result Request WordsFault
-envelope_request given = option_text given option.Table >>= λ table. option_text given option.Formula >>= λ formula.
-    option_text given option.Coverage >>= λ coverage. option_number option.Coverage coverage >>= λ coverage.
-    Ok (Envelope table formula coverage)
+unfoldable pub decompose_request : Values → Result Request WordsFault
+decompose_request values = required_text values option.Table >>= λ table. or_fault Words (tolerance_of values)
+    >>= λ allowed. required_text values option.Alphabet >>= λ alphabet. required_text values option.Adduct
+    >>= λ adduct. required_text values option.Rules >>= λ rules.
+    Ok (Decompose table (number_of values option.Mass) (values option.Peaks) allowed alphabet adduct rules
+    (number_of values option.Limit) (values option.After))
 
-abbrev pub command_request : CommandName → (OptionName → Option Bytes) → Result Request WordsFault
-command_request command.Decompose given = decompose_request given
-command_request command.Envelope given = envelope_request given
+unfoldable pub envelope_request : Values → Result Request WordsFault
+envelope_request values = required_text values option.Table >>= λ table. required_text values option.Adduct
+    >>= λ adduct. required_text values option.Formula >>= λ formula. required_number values option.Coverage
+    >>= λ coverage. Ok (Envelope table (values option.Tracer) adduct formula coverage)
+
+-- the request of values that go together and are in their ranges
+abbrev pub fields_request : CommandName → Values → Result Request WordsFault
+fields_request command.Decompose values = decompose_request values
+fields_request command.Envelope values = envelope_request values
+
+-- the answer by whether options go together, and by the first whose value is outside its range
+abbrev pub answer_by : Bool → Option OptionName → Result Request WordsFault → Result Request WordsFault
+answer_by false outside answer = Err Words
+answer_by true (Some option) answer = Err (Value (number option))
+answer_by true None answer = answer
+
+abbrev pub values_request : CommandName → Values → Result Request WordsFault
+values_request command values =
+    answer_by (go_together command values) (first_outside command values) (fields_request command values)
 
 -- what words ask for
 unfoldable pub request_of : List Bytes → Result Request WordsFault
 request_of [] = Err Words
 request_of (first ∷ words) = or_fault Words (command_of first) >>= λ command.
-    or_fault Words (uses_of (names command) words) >>= λ uses. command_request command (value_of uses)
+    or_fault Words (uses_of (names command) words) >>= λ uses. values_request command (value_of uses)

@@ -1,6 +1,6 @@
-//! The commands, and the options that each has.
+//! The commands, the options that each has, and which of them are asked together.
 ghost use Rattle.std.specs.Prelude.{◌≡◌, ◌==◌, length, map, option_map, string_bytes};
-ghost use Rattle.command_words.specs.Options.{command_word, command_of, options};
+ghost use Rattle.command_words.specs.Options.{command_word, command_of, group_options, groups, options, required_options};
 
 use crate::options::OptionName;
 
@@ -11,18 +11,50 @@ pub(crate) enum CommandName {
     Envelope,
 }
 
-static DECOMPOSE_OPTIONS: [OptionName; 4] = [
+/// Options of which exactly one is asked.
+#[derive(Clone, Copy, Debug, PartialEq, Eq)]
+pub(crate) enum OptionGroup {
+    /// What is looked for: one mass, or the peaks of a file.
+    Sought,
+    /// How far from it.
+    Tolerance,
+}
+
+static DECOMPOSE_OPTIONS: [OptionName; 11] = [
     OptionName::Table,
     OptionName::Mass,
+    OptionName::Peaks,
+    OptionName::Ppm,
     OptionName::Da,
+    OptionName::PpmCalc,
     OptionName::Alphabet,
+    OptionName::Adduct,
+    OptionName::Rules,
+    OptionName::Limit,
+    OptionName::After,
 ];
 
-static ENVELOPE_OPTIONS: [OptionName; 3] = [
+static ENVELOPE_OPTIONS: [OptionName; 5] = [
+    OptionName::Table,
+    OptionName::Tracer,
+    OptionName::Adduct,
+    OptionName::Formula,
+    OptionName::Coverage,
+];
+
+static DECOMPOSE_REQUIRED: [OptionName; 2] = [OptionName::Table, OptionName::Alphabet];
+
+static ENVELOPE_REQUIRED: [OptionName; 3] = [
     OptionName::Table,
     OptionName::Formula,
     OptionName::Coverage,
 ];
+
+static DECOMPOSE_GROUPS: [OptionGroup; 2] = [OptionGroup::Sought, OptionGroup::Tolerance];
+
+static SOUGHT_OPTIONS: [OptionName; 2] = [OptionName::Mass, OptionName::Peaks];
+
+static TOLERANCE_OPTIONS: [OptionName; 3] = [OptionName::Ppm, OptionName::Da, OptionName::PpmCalc];
 
 impl CommandName {
     /// The command that a first word names.
@@ -53,6 +85,38 @@ impl CommandName {
         match self {
             CommandName::Decompose => DECOMPOSE_OPTIONS.as_slice(),
             CommandName::Envelope => ENVELOPE_OPTIONS.as_slice(),
+        }
+    }
+
+    /// Those of them that it requires.
+    pub(crate) fn required_options(self) -> &'static [OptionName]
+        ensures { result.now ≡ required_options self }
+    {
+        match self {
+            CommandName::Decompose => DECOMPOSE_REQUIRED.as_slice(),
+            CommandName::Envelope => ENVELOPE_REQUIRED.as_slice(),
+        }
+    }
+
+    /// The groups of them of which it asks exactly one.
+    pub(crate) fn groups(self) -> &'static [OptionGroup]
+        ensures { result.now ≡ groups self }
+    {
+        match self {
+            CommandName::Decompose => DECOMPOSE_GROUPS.as_slice(),
+            CommandName::Envelope => &[],
+        }
+    }
+}
+
+impl OptionGroup {
+    /// The options of the group.
+    pub(crate) fn options(self) -> &'static [OptionName]
+        ensures { result.now ≡ group_options self }
+    {
+        match self {
+            OptionGroup::Sought => SOUGHT_OPTIONS.as_slice(),
+            OptionGroup::Tolerance => TOLERANCE_OPTIONS.as_slice(),
         }
     }
 }

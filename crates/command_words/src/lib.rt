@@ -14,11 +14,14 @@ mod matches;
 mod options;
 mod reading;
 mod request;
+mod together;
 mod values;
 mod word;
 
 pub use fault::WordsFault;
-pub use options::{MAX_COVERAGE, MIN_COVERAGE, MIN_MZ, OPTION_COUNT, option_name};
+pub use options::{
+    MAX_COVERAGE, MAX_LIMIT, MIN_COVERAGE, MIN_LIMIT, MIN_MZ, OPTION_COUNT, option_name,
+};
 pub use reading::request_of;
 pub use request::Request;
 pub use word::Word;

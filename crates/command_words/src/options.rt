@@ -1,8 +1,8 @@
 //! The table of options.
-ghost use Rattle.std.specs.Prelude.{◌≡◌, ◌==◌, find};
-ghost use Rattle.command_words.specs.Options.{name, word, kind, number, option_table, option_word};
+ghost use Rattle.std.specs.Prelude.{◌≡◌, ◌==◌, find, option_map};
+ghost use Rattle.command_words.specs.Options.{companion, default_text, name, word, kind, number, option_table, option_word};
 
-use mass_scaling::{MAX_DA, MAX_MZ};
+use mass_scaling::{MAX_DA, MAX_MZ, MAX_PPM};
 
 /// The least m/z, or mass for the neutral adduct, in 10^-12 Da.
 pub const MIN_MZ: u64 = 1;
@@ -13,18 +13,32 @@ pub const MIN_COVERAGE: u64 = 1;
 /// The greatest coverage, 0.999999, in 10^-18.
 pub const MAX_COVERAGE: u64 = 999_999_000_000_000_000;
 
+/// The least number of candidates that can be asked for.
+pub const MIN_LIMIT: u64 = 1;
+
+/// The greatest number of candidates that can be asked for.
+pub const MAX_LIMIT: u64 = 1_048_576;
+
 /// How many options there are; they are numbered from 1.
-pub const OPTION_COUNT: u32 = 6;
+pub const OPTION_COUNT: u32 = 14;
 
 /// The options, in the order of their table.
 #[derive(Clone, Copy, Debug, PartialEq, Eq)]
 pub(crate) enum OptionName {
     Table,
+    Tracer,
     Mass,
+    Peaks,
+    Ppm,
     Da,
+    PpmCalc,
     Alphabet,
+    Adduct,
+    Rules,
     Formula,
     Coverage,
+    Limit,
+    After,
 }
 
 /// What the value of an option is, with the least and the greatest number.
@@ -34,8 +48,12 @@ pub(crate) enum ValueKind {
     Text,
     /// A decimal number of Da, in 10^-12 Da.
     Daltons { low: u64, high: u64 },
+    /// A decimal number of ppm, in 10^-3 ppm.
+    Ppm { low: u64, high: u64 },
     /// A decimal number, in 10^-18.
     Fraction { low: u64, high: u64 },
+    /// A whole number.
+    Whole { low: u64, high: u64 },
 }
 
 /// A row of the table of options.
@@ -56,13 +74,46 @@ impl OptionRow {
     }
 }
 
+const MZ: ValueKind = ValueKind::Daltons {
+    low: MIN_MZ,
+    high: MAX_MZ,
+};
+
+const DISTANCE: ValueKind = ValueKind::Daltons {
+    low: 0,
+    high: MAX_DA,
+};
+
+const PPM: ValueKind = ValueKind::Ppm {
+    low: 0,
+    high: MAX_PPM,
+};
+
+const COVERAGE: ValueKind = ValueKind::Fraction {
+    low: MIN_COVERAGE,
+    high: MAX_COVERAGE,
+};
+
+const LIMIT: ValueKind = ValueKind::Whole {
+    low: MIN_LIMIT,
+    high: MAX_LIMIT,
+};
+
 const OPTIONS: [OptionName; OPTION_COUNT as usize] = [
     OptionName::Table,
+    OptionName::Tracer,
     OptionName::Mass,
+    OptionName::Peaks,
+    OptionName::Ppm,
     OptionName::Da,
+    OptionName::PpmCalc,
     OptionName::Alphabet,
+    OptionName::Adduct,
+    OptionName::Rules,
     OptionName::Formula,
     OptionName::Coverage,
+    OptionName::Limit,
+    OptionName::After,
 ];
 
 impl OptionName {
@@ -72,32 +123,19 @@ impl OptionName {
     {
         match self {
             OptionName::Table => OptionRow::of("--table", "table", ValueKind::Text),
-            OptionName::Mass => OptionRow::of(
-                "--mass",
-                "mass",
-                ValueKind::Daltons {
-                    low: MIN_MZ,
-                    high: MAX_MZ,
-                },
-            ),
-            OptionName::Da => OptionRow::of(
-                "--da",
-                "da",
-                ValueKind::Daltons {
-                    low: 0,
-                    high: MAX_DA,
-                },
-            ),
+            OptionName::Tracer => OptionRow::of("--tracer", "tracer", ValueKind::Text),
+            OptionName::Mass => OptionRow::of("--mass", "mass", MZ),
+            OptionName::Peaks => OptionRow::of("--peaks", "peaks", ValueKind::Text),
+            OptionName::Ppm => OptionRow::of("--ppm", "ppm", PPM),
+            OptionName::Da => OptionRow::of("--da", "da", DISTANCE),
+            OptionName::PpmCalc => OptionRow::of("--ppm-calc", "ppm-calc", PPM),
             OptionName::Alphabet => OptionRow::of("--alphabet", "alphabet", ValueKind::Text),
+            OptionName::Adduct => OptionRow::of("--adduct", "adduct", ValueKind::Text),
+            OptionName::Rules => OptionRow::of("--rules", "rules", ValueKind::Text),
             OptionName::Formula => OptionRow::of("--formula", "formula", ValueKind::Text),
-            OptionName::Coverage => OptionRow::of(
-                "--coverage",
-                "coverage",
-                ValueKind::Fraction {
-                    low: MIN_COVERAGE,
-                    high: MAX_COVERAGE,
-                },
-            ),
+            OptionName::Coverage => OptionRow::of("--coverage", "coverage", COVERAGE),
+            OptionName::Limit => OptionRow::of("--limit", "limit", LIMIT),
+            OptionName::After => OptionRow::of("--after", "after", ValueKind::Text),
         }
     }
 
@@ -113,6 +151,27 @@ impl OptionName {
         ensures { result ≡ kind self }
     {
         self.row().kind
+    }
+
+    /// The text that stands for an option which isn't given.
+    pub(crate) fn default_text(self) -> Option<&'static str>
+        ensures { option_map (λ text. text.now) result ≡ default_text self }
+    {
+        match self {
+            OptionName::Adduct => Some("M"),
+            OptionName::Rules => Some("none"),
+            _ => None,
+        }
+    }
+
+    /// The option without which this one isn't asked.
+    pub(crate) fn companion(self) -> Option<OptionName>
+        ensures { result ≡ companion self }
+    {
+        match self {
+            OptionName::Limit | OptionName::After => Some(OptionName::Mass),
+            _ => None,
+        }
     }
 
     /// Its place in the table, from 1.
@@ -133,7 +192,7 @@ fn option_of(place: u32) -> Option<OptionName>
         .find(|option| option.number() == place)
 }
 
-/// The option of this number as it is written, as `--mass` for 2, and nothing for a number that the table hasn't.
+/// The option of this number as it is written, as `--mass` for 3, and nothing for a number that the table hasn't.
 pub fn option_name(option: u32) -> &'static str
     ensures { result.now ≡ option_word option }
 {

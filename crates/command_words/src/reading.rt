@@ -2,10 +2,9 @@
 ghost use Rattle.std.specs.Prelude.{◌≡◌, List, map, string_bytes, IfOk, IfErr, Result};
 ghost use Rattle.std.specs.List.{list_all};
 ghost use Rattle.reader_answers.specs.Answers.{Gives};
-ghost use Rattle.clap.specs.Words.{first_of, found_of, rows_of};
-ghost use Rattle.command_words.specs.Options.{name};
+ghost use Rattle.clap.specs.Words.{found_of};
 ghost use Rattle.command_words.specs.Requests.{Asks, HasRanges, IsOfTable};
-ghost use Rattle.command_words.specs.WordReading.{is_memory, is_readable, request_of, decompose_request, envelope_request};
+ghost use Rattle.command_words.specs.WordReading.{decompose_request, envelope_request, is_memory, is_readable, matched, request_of, values_request};
 ghost use Rattle.command_words.specs.declared.fault.WordsFault.{WordsFault};
 ghost use Rattle.command_words.specs.declared.request.Request.{Request};
 
@@ -14,16 +13,17 @@ use crate::fault::WordsFault;
 use crate::matches::{is_readable, matches_of};
 use crate::options::OptionName;
 use crate::request::Request;
-use crate::values::{option_number, option_text};
-use crate::word::Word;
+use crate::together::{first_outside, go_together};
+use crate::values::{given_text, number_of, required_number, required_text, tolerance_of};
 use clap::ArgMatches;
-use mass_scaling::Tolerance;
-use std::alloc::{AllocError, Global};
+use std::alloc::Global;
 
 /// Reads the words behind the program's name as a request. The first names a command; the others give each option
 /// of it that they name its value, as `--name value` or `--name=value`, in any order. The answer is
-/// [`WordsFault::Words`] where they don't, or where an option is absent that the command requires, and else
-/// [`WordsFault::Value`] of the first option in the order of the table whose value is outside its range.
+/// [`WordsFault::Words`] where they don't, or where the options that they give don't go together, and else
+/// [`WordsFault::Value`] of the first option in the order of the table whose value is outside its range. Options go
+/// together where each is given that the command requires, exactly one of those of which one is asked, and none
+/// without the one that it goes with.
 pub fn request_of(alloc: Global, words: &Vec<String>) -> Result<Request, WordsFault>
     // The answer, unless it is want of memory.
     ensures gives { Gives is_memory result (request_of (map string_bytes words.now.items)) }
@@ -52,10 +52,7 @@ fn words_request(alloc: Global, words: &[String]) -> Result<Request, WordsFault>
         return Err(WordsFault::Words);
     }
     let matches = matches_of(alloc, command, words)?;
-    match command {
-        CommandName::Decompose => decompose_request(alloc, &matches),
-        CommandName::Envelope => envelope_request(alloc, &matches),
-    }
+    matched_request(alloc, command, &matches)
 }
 
 /// Whether each word can be a value, or is `--name` or `--name=value`.
@@ -65,45 +62,56 @@ fn are_readable(words: &[String]) -> bool
     words.iter().all(|word| is_readable(word.as_bytes()))
 }
 
-/// The request that the matches of `decompose` make.
+/// The request that the matches of a command make.
+fn matched_request(
+    alloc: Global,
+    command: CommandName,
+    matches: &ArgMatches<'_>,
+) -> Result<Request, WordsFault>
+    ensures { Gives is_memory result (values_request command (matched (found_of matches.now))) }
+{
+    if !go_together(matches, command) {
+        return Err(WordsFault::Words);
+    }
+    if let Some(option) = first_outside(matches, command) {
+        return Err(WordsFault::Value {
+            option: option.number(),
+        });
+    }
+    match command {
+        CommandName::Decompose => decompose_request(alloc, matches),
+        CommandName::Envelope => envelope_request(alloc, matches),
+    }
+}
+
+/// The request that the values of `decompose` make.
 #[tactic(auto, unfolding(crate::specs::WordReading::decompose_request))]
 fn decompose_request(alloc: Global, matches: &ArgMatches<'_>) -> Result<Request, WordsFault>
-    ensures { Gives is_memory result (decompose_request (λ option. first_of (name option) (rows_of (found_of matches.now)))) }
+    ensures { Gives is_memory result (decompose_request (matched (found_of matches.now))) }
 {
-    let table = option_text(matches, OptionName::Table)?;
-    let mass = option_text(matches, OptionName::Mass)?;
-    let da = option_text(matches, OptionName::Da)?;
-    let alphabet = option_text(matches, OptionName::Alphabet)?;
-    let mass = option_number(OptionName::Mass, mass)?;
-    let units = option_number(OptionName::Da, da)?;
     Ok(Request::Decompose {
-        table: word_of(alloc, table)?,
-        mass,
-        tolerance: Tolerance::Da { units },
-        alphabet: word_of(alloc, alphabet)?,
+        table: required_text(alloc, matches, OptionName::Table)?,
+        mass: number_of(matches, OptionName::Mass),
+        peaks: given_text(alloc, matches, OptionName::Peaks)?,
+        tolerance: tolerance_of(matches).ok_or(WordsFault::Words)?,
+        alphabet: required_text(alloc, matches, OptionName::Alphabet)?,
+        adduct: required_text(alloc, matches, OptionName::Adduct)?,
+        rules: required_text(alloc, matches, OptionName::Rules)?,
+        limit: number_of(matches, OptionName::Limit),
+        after: given_text(alloc, matches, OptionName::After)?,
     })
 }
 
-/// The request that the matches of `envelope` make.
+/// The request that the values of `envelope` make.
 #[tactic(auto, unfolding(crate::specs::WordReading::envelope_request))]
 fn envelope_request(alloc: Global, matches: &ArgMatches<'_>) -> Result<Request, WordsFault>
-    ensures { Gives is_memory result (envelope_request (λ option. first_of (name option) (rows_of (found_of matches.now)))) }
+    ensures { Gives is_memory result (envelope_request (matched (found_of matches.now))) }
 {
-    let table = option_text(matches, OptionName::Table)?;
-    let formula = option_text(matches, OptionName::Formula)?;
-    let coverage = option_text(matches, OptionName::Coverage)?;
-    let coverage = option_number(OptionName::Coverage, coverage)?;
     Ok(Request::Envelope {
-        table: word_of(alloc, table)?,
-        formula: word_of(alloc, formula)?,
-        coverage,
+        table: required_text(alloc, matches, OptionName::Table)?,
+        tracer: given_text(alloc, matches, OptionName::Tracer)?,
+        adduct: required_text(alloc, matches, OptionName::Adduct)?,
+        formula: required_text(alloc, matches, OptionName::Formula)?,
+        coverage: required_number(matches, OptionName::Coverage)?,
     })
-}
-
-/// A value as a word of its own.
-fn word_of(alloc: Global, value: &str) -> Result<Word, AllocError>
-    ensures { IfOk result (λ word. word ≡ value.now) }
-{
-    let text = value.to_string(alloc)?;
-    Ok(Word::of(text))
 }

@@ -1,7 +1,6 @@
 //! What no clause says: which answers the words of users get, with ample memory.
 
 use super::*;
-use mass_scaling::Tolerance;
 use std::alloc::Global;
 use std::process::Abort;
 
@@ -16,81 +15,99 @@ fn answer(rt: &impl Abort, alloc: Global, text: &str) -> Result<Request, WordsFa
     request_of(alloc, &words)
 }
 
-fn asks_decompose(
-    answer: Result<Request, WordsFault>,
-    name: &str,
-    dalton_units: u64,
-    units: u64,
-    symbols: &str,
-) -> bool {
-    match answer {
-        Ok(
-            Request::Decompose {
-                table,
-                mass,
-                tolerance,
-                alphabet,
-            },
-        ) => {
-            table.text().as_str() == name
-                && mass == dalton_units
-                && tolerance == Tolerance::Da { units }
-                && alphabet.text().as_str() == symbols
-        }
-        _ => false,
+/// A name or a text that may be absent.
+fn text_or_dash(word: &Option<Word>) -> &str {
+    match word {
+        Some(word) => word.text().as_str(),
+        None => "-",
     }
 }
 
-fn asks_envelope(
-    answer: Result<Request, WordsFault>,
-    name: &str,
-    written: &str,
-    share: u64,
-) -> bool {
-    match answer {
-        Ok(
-            Request::Envelope {
-                table,
-                formula,
-                coverage,
-            },
-        ) => {
-            table.text().as_str() == name && formula.text().as_str() == written && coverage == share
-        }
-        _ => false,
-    }
+/// The fields of a request, one after another.
+fn shown(rt: &impl Abort, alloc: Global, request: &Request) -> String {
+    let text = match request {
+        Request::Decompose {
+            table,
+            mass,
+            peaks,
+            tolerance,
+            alphabet,
+            adduct,
+            rules,
+            limit,
+            after,
+        } => format!(in alloc;
+            "{} {mass:?} {} {tolerance:?} {} {} {} {limit:?} {}",
+            table.text(),
+            text_or_dash(peaks),
+            alphabet.text(),
+            adduct.text(),
+            rules.text(),
+            text_or_dash(after)
+        ),
+        Request::Envelope {
+            table,
+            tracer,
+            adduct,
+            formula,
+            coverage,
+        } => format!(in alloc;
+            "{} {} {} {} {coverage}",
+            table.text(),
+            text_or_dash(tracer),
+            adduct.text(),
+            formula.text()
+        ),
+    };
+    text.expect(rt, "a text")
 }
 
-const DA_12: u64 = 12_000_000_000_000;
+/// The words are a request of these fields.
+fn asks(rt: &impl Abort, alloc: Global, words: &str, fields: &str) -> bool {
+    match answer(rt, alloc, words) {
+        Ok(request) => shown(rt, alloc, &request).as_str() == fields,
+        Err(_) => false,
+    }
+}
 
 #[test]
-fn decompose_takes_its_options_in_each_order_and_form(rt: HostRuntime) {
+fn the_options_of_decompose_stand_in_each_order_and_form(rt: HostRuntime) {
+    let fields = "t.csv Some(12000000000000) - Da { units: 500000000000 } CHO M none None -";
     let rows = [
         "decompose --table t.csv --mass 12 --da 0.5 --alphabet CHO",
         "decompose --alphabet CHO --da 0.5 --mass 12 --table t.csv",
         "decompose --mass=12 --table=t.csv --alphabet=CHO --da=0.5",
         "decompose --mass 12.000 --alphabet=CHO --table t.csv --da=0.500000000000000",
+        "decompose --rules none --table t.csv --mass 12 --da 0.5 --adduct=M --alphabet CHO",
     ];
     for row in rows {
-        assert!(rt;
-            asks_decompose(
-                answer(&rt, rt.alloc(), row),
-                "t.csv",
-                DA_12,
-                500_000_000_000,
-                "CHO"
-            )
-        );
+        assert!(rt; asks(&rt, rt.alloc(), row, fields));
     }
-    let envelope = "envelope --coverage=0.9 --formula C6H12O6 --table t.csv";
-    assert!(rt;
-        asks_envelope(
-            answer(&rt, rt.alloc(), envelope),
-            "t.csv",
-            "C6H12O6",
-            900_000_000_000_000_000
-        )
-    );
+}
+
+#[test]
+fn each_option_gives_its_field_and_defaults_the_others(rt: HostRuntime) {
+    let rows = [
+        (
+            "decompose --table t --peaks p.csv --ppm 2 --alphabet C --adduct [M+H]+ --rules golden",
+            "t None p.csv Ppm { thousandths: 2000 } C [M+H]+ golden None -",
+        ),
+        (
+            "decompose --table t --mass 1 --ppm-calc 0.001 --alphabet C --limit 7 --after C2",
+            "t Some(1000000000000) - PpmCalculated { thousandths: 1 } C M none Some(7) C2",
+        ),
+        (
+            "envelope --coverage=0.9 --formula C6H12O6 --table t.csv",
+            "t.csv - M C6H12O6 900000000000000000",
+        ),
+        (
+            "envelope --tracer r.csv --adduct [M-H]- --coverage=0.9 --formula C6H12O6 --table t.csv",
+            "t.csv r.csv [M-H]- C6H12O6 900000000000000000",
+        ),
+    ];
+    for (words, fields) in rows {
+        assert!(rt; asks(&rt, rt.alloc(), words, fields));
+    }
 }
 
 #[test]
@@ -98,23 +115,19 @@ fn a_value_may_hold_an_equals_sign_and_is_cut_at_the_first(rt: HostRuntime) {
     let rows = [
         (
             "envelope --table=a=b --formula X --coverage 0.5",
-            "a=b",
-            "X",
+            "a=b - M X 500000000000000000",
         ),
         (
             "envelope --table a=b --formula =X= --coverage 0.5",
-            "a=b",
-            "=X=",
+            "a=b - M =X= 500000000000000000",
         ),
         (
             "envelope --table==a --formula=X-y --coverage=0.5",
-            "=a",
-            "X-y",
+            "=a - M X-y 500000000000000000",
         ),
     ];
-    for (row, table, formula) in rows {
-        let given = answer(&rt, rt.alloc(), row);
-        assert!(rt; asks_envelope(given, table, formula, 500_000_000_000_000_000));
+    for (words, fields) in rows {
+        assert!(rt; asks(&rt, rt.alloc(), words, fields));
     }
 }
 
@@ -150,12 +163,11 @@ fn words_that_make_no_request_are_refused(rt: HostRuntime) {
         "decompose -table t --mass 1 --da 0 --alphabet C",
         "decompose --table t --mass 1 --da 0 --alphabet C --unknown x",
         "decompose --table t --mass 1 --da 0 --alphabet C --formula X",
+        "decompose --table t --mass 1 --da 0 --alphabet C --tracer r",
         "envelope --table t --formula X --coverage 0.5 --mass 1",
         "decompose --table t --mass 1 --mass 1 --da 0 --alphabet C",
         "decompose --table t --mass 1 --da 0 --alphabet C --mass=2",
         "decompose --mass=2 --table t --mass=1 --da 0 --alphabet C",
-        "decompose --table t --mass 1 --da 0 --alphabet C --ppm 5",
-        "decompose --table t --mass 99999 --da 99999 --alphabet C x",
     ];
     for row in rows {
         assert!(rt; matches!(answer(&rt, rt.alloc(), row), Err(WordsFault::Words)));
@@ -165,66 +177,94 @@ fn words_that_make_no_request_are_refused(rt: HostRuntime) {
 }
 
 #[test]
+fn options_that_do_not_go_together_are_refused(rt: HostRuntime) {
+    let rows = [
+        "decompose --table t --da 0 --alphabet C",
+        "decompose --table t --mass 1 --peaks p --da 0 --alphabet C",
+        "decompose --table t --mass 1 --alphabet C",
+        "decompose --table t --mass 1 --ppm 1 --da 0.1 --alphabet C",
+        "decompose --table t --mass 1 --ppm 1 --ppm 1 --alphabet C",
+        "decompose --table t --mass 1 --ppm 1 --ppm-calc 1 --alphabet C",
+        "decompose --table t --mass 1 --da 1 --ppm-calc 1 --alphabet C",
+        "decompose --table t --mass 1 --ppm 1 --da 1 --ppm-calc 1 --alphabet C",
+        "decompose --mass 1 --da 0 --alphabet C",
+        "decompose --table t --peaks p --da 0 --alphabet C --limit 1",
+        "decompose --table t --peaks p --da 0 --alphabet C --after C",
+        "envelope --table t --formula X",
+        "envelope --table t --coverage 0.5",
+        "decompose --table t --mass 99999 --da 99999 --ppm 99999 --alphabet C",
+        "decompose --table t --peaks p --da 0 --alphabet C --limit 0",
+    ];
+    for row in rows {
+        assert!(rt; matches!(answer(&rt, rt.alloc(), row), Err(WordsFault::Words)));
+    }
+}
+
+#[test]
 fn the_first_value_outside_its_range_is_told(rt: HostRuntime) {
     let rows = [
-        ("decompose --table t --mass 0 --da 0 --alphabet C", 2),
-        ("decompose --table t --mass 0.000 --da 0 --alphabet C", 2),
-        (
-            "decompose --table t --mass 20000.000000000001 --da 0 --alphabet C",
-            2,
-        ),
-        (
-            "decompose --table t --mass 0.0000000000001 --da 0 --alphabet C",
-            2,
-        ),
-        ("decompose --table t --mass 1e3 --da 0 --alphabet C", 2),
-        ("decompose --table t --mass +1 --da 0 --alphabet C", 2),
-        (
-            "decompose --table t --mass 1 --da 10.000000000001 --alphabet C",
-            3,
-        ),
-        ("decompose --table t --mass 1 --da x --alphabet C", 3),
-        ("decompose --da 11 --alphabet C --mass 0 --table t", 2),
-        ("envelope --table t --formula X --coverage 0", 6),
-        ("envelope --table t --formula X --coverage 0.9999991", 6),
-        ("envelope --table t --formula X --coverage 1", 6),
-        (
-            "envelope --coverage 0.1234567890123456789 --table t --formula X",
-            6,
-        ),
+        ("--table t --mass 0 --da 0 --alphabet C", 3),
+        ("--table t --mass 0.000 --da 0 --alphabet C", 3),
+        ("--table t --mass 20000.000000000001 --da 0 --alphabet C", 3),
+        ("--table t --mass 0.0000000000001 --da 0 --alphabet C", 3),
+        ("--table t --mass 1e3 --da 0 --alphabet C", 3),
+        ("--table t --mass +1 --da 0 --alphabet C", 3),
+        ("--table t --mass 1 --ppm 1000.001 --alphabet C", 5),
+        ("--table t --mass 1 --ppm 0.0001 --alphabet C", 5),
+        ("--table t --mass 1 --da 10.000000000001 --alphabet C", 6),
+        ("--table t --mass 1 --da x --alphabet C", 6),
+        ("--table t --mass 1 --ppm-calc 1000.001 --alphabet C", 7),
+        ("--da 11 --alphabet C --mass 0 --table t", 3),
+        ("--limit 0 --da 11 --alphabet C --mass 1 --table t", 6),
+        ("--table t --mass 1 --da 0 --alphabet C --limit 0", 13),
+        ("--table t --mass 1 --da 0 --alphabet C --limit 1048577", 13),
+        ("--table t --mass 1 --da 0 --alphabet C --limit 1.0", 13),
     ];
-    for (row, number) in rows {
-        assert!(rt;
-            matches!(answer(&rt, rt.alloc(), row), Err(WordsFault::Value { option }) if option == number)
-        );
+    for (options, number) in rows {
+        let words = format!(in rt.alloc(); "decompose {options}").expect(&rt, "words");
+        let given = answer(&rt, rt.alloc(), words.as_str());
+        assert!(rt; matches!(given, Err(WordsFault::Value { option }) if option == number));
+    }
+    for coverage in ["0", "0.9999991", "1", "0.1234567890123456789"] {
+        let words = format!(in rt.alloc();
+            "envelope --table t --formula X --coverage {coverage}"
+        ).expect(&rt, "words");
+        let given = answer(&rt, rt.alloc(), words.as_str());
+        assert!(rt; matches!(given, Err(WordsFault::Value { option: 12 })));
     }
 }
 
 #[test]
 fn values_at_the_ends_of_their_ranges_are_read(rt: HostRuntime) {
-    let least = "decompose --table t --mass 0.000000000001 --da 0 --alphabet C";
-    assert!(rt; asks_decompose(answer(&rt, rt.alloc(), least), "t", 1, 0, "C"));
-    let greatest = "decompose --table t --mass 20000 --da 10 --alphabet C";
-    assert!(rt;
-        asks_decompose(
-            answer(&rt, rt.alloc(), greatest),
-            "t",
-            20_000_000_000_000_000,
-            10_000_000_000_000,
-            "C"
-        )
-    );
-    let coverage = "envelope --table t --formula X --coverage 0.999999";
-    assert!(rt;
-        asks_envelope(
-            answer(&rt, rt.alloc(), coverage),
-            "t",
-            "X",
-            999_999_000_000_000_000
-        )
-    );
-    let least_coverage = "envelope --table t --formula X --coverage 0.000000000000000001";
-    assert!(rt; asks_envelope(answer(&rt, rt.alloc(), least_coverage), "t", "X", 1));
+    let rows = [
+        (
+            "decompose --table t --mass 0.000000000001 --da 0 --alphabet C --limit 1",
+            "t Some(1) - Da { units: 0 } C M none Some(1) -",
+        ),
+        (
+            "decompose --table t --mass 20000 --da 10 --alphabet C --limit 1048576",
+            "t Some(20000000000000000) - Da { units: 10000000000000 } C M none Some(1048576) -",
+        ),
+        (
+            "decompose --table t --peaks p --ppm 0 --alphabet C",
+            "t None p Ppm { thousandths: 0 } C M none None -",
+        ),
+        (
+            "decompose --table t --peaks p --ppm-calc 1000 --alphabet C",
+            "t None p PpmCalculated { thousandths: 1000000 } C M none None -",
+        ),
+        (
+            "envelope --table t --formula X --coverage 0.999999",
+            "t - M X 999999000000000000",
+        ),
+        (
+            "envelope --table t --formula X --coverage 0.000000000000000001",
+            "t - M X 1",
+        ),
+    ];
+    for (words, fields) in rows {
+        assert!(rt; asks(&rt, rt.alloc(), words, fields));
+    }
 }
 
 #[test]
@@ -239,25 +279,29 @@ fn many_and_long_words_are_read(rt: HostRuntime) {
     let text = format!(in rt.alloc();
         "envelope --table {name} --formula={name} --coverage 0.5"
     ).expect(&rt, "words");
-    assert!(rt;
-        asks_envelope(
-            answer(&rt, rt.alloc(), text.as_str()),
-            name.as_str(),
-            name.as_str(),
-            500_000_000_000_000_000
-        )
+    let fields = format!(in rt.alloc(); "{name} - M {name} 500000000000000000").expect(
+        &rt, "fields",
     );
+    assert!(rt; asks(&rt, rt.alloc(), text.as_str(), fields.as_str()));
 }
 
 #[test]
 fn options_are_named_as_they_are_written(rt: HostRuntime) {
     let names = [
         "--table",
+        "--tracer",
         "--mass",
+        "--peaks",
+        "--ppm",
         "--da",
+        "--ppm-calc",
         "--alphabet",
+        "--adduct",
+        "--rules",
         "--formula",
         "--coverage",
+        "--limit",
+        "--after",
     ];
     for (place, name) in names.iter().enumerate() {
         if place < OPTION_COUNT as usize {
@@ -267,7 +311,7 @@ fn options_are_named_as_they_are_written(rt: HostRuntime) {
     assert!(rt; option_name(0).is_empty() && option_name(OPTION_COUNT + 1).is_empty());
     let notes = [
         (WordsFault::Words, "words"),
-        (WordsFault::Value { option: 2 }, "value: --mass"),
+        (WordsFault::Value { option: 13 }, "value: --limit"),
         (WordsFault::Memory, "memory"),
     ];
     for (fault, note) in notes {

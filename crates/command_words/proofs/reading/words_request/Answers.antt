@@ -1,13 +1,10 @@
-use Rattle.std.proofs.Common.{◌≡◌, ◌∙◌, Global, None, Some, ap, drop, false, length, map, rules, string_bytes, subst, sym, true}
+use Rattle.std.proofs.Common.{◌≡◌, ◌∙◌, None, Some, false, length, map, rules, string_bytes, subst, sym, true}
 use Rattle.std.proofs.lemmas.List.Folds.{list_all-map}
 use Rattle.std.proofs.lemmas.Result.{err_from_is_err_and}
 use Rattle.reader_answers.specs.Answers.{Gives}
-use Rattle.clap.specs.Words.{found_of, rows_of}
+use Rattle.clap.specs.Words.{found_of}
 use Rattle.command_words.specs.Options.{command_of}
-use Rattle.command_words.specs.Uses.{names}
-use Rattle.command_words.specs.WordReading.{is_memory, is_readable, uses_of}
-use Rattle.command_words.specs.declared.commands.CommandName.{CommandName}
-use Rattle.command_words.specs.declared.commands.CommandName.TheVariants.{Decompose, Envelope}
+use Rattle.command_words.specs.WordReading.{is_memory, is_readable}
 use Rattle.command_words.proofs.AskedRequests.{no_words, request_of-matches, request_of-no_command, request_of-no_uses, unread_answer, unreadable}
 use Rattle.command_words.proofs.reading.words_request.Goals as goal
 
@@ -48,28 +45,12 @@ returns-in_err-matches c =
     (unread_answer (string_bytes c.in-Some.first.now)
     (map string_bytes c.in-Some.rest.now) c.in-Some-of.command c.in_err-matches.field-0.0 named unread)
 
-pub returns-in-Decompose : goal.returns-in-Decompose
-returns-in-Decompose c =
-    let named : command_of (string_bytes c.in-Some.first.now) ≡ Some c.in-Some-of.command = search rules in
-    let words_is = c.in-Some.ensures.cases.0 in
-    let found = c.in_ok-matches.ensures.read in
-    let read = ap (λ (cmd : CommandName). uses_of (names cmd)
-    (drop 1 (map (string_bytes {Z = Global}) c.args.words.now))) (sym c.in-Decompose.is) ∙ found.1 in
-    rw words_is (subst (Gives is_memory c.decompose_request.result)
-    (request_of-matches (string_bytes c.in-Some.first.now) (map string_bytes c.in-Some.rest.now) Decompose found.0
-    (rows_of (found_of c.in_ok-matches.matches)) (named ∙ ap Some c.in-Decompose.is)
-    (ap (λ ws. uses_of (names Decompose) (drop 1 (map (string_bytes {Z = Global}) ws))) (sym words_is) ∙ read) found.2)
-    c.decompose_request.ensures)
-
 pub returns : goal.returns
 returns c =
     let named : command_of (string_bytes c.in-Some.first.now) ≡ Some c.in-Some-of.command = search rules in
     let words_is = c.in-Some.ensures.cases.0 in
-    let found = c.in_ok-matches.ensures.read in
-    let read = ap (λ (cmd : CommandName). uses_of (names cmd)
-    (drop 1 (map (string_bytes {Z = Global}) c.args.words.now))) (sym c.in-Envelope.is) ∙ found.1 in
-    rw words_is (subst (Gives is_memory c.envelope_request.result)
-    (request_of-matches (string_bytes c.in-Some.first.now) (map string_bytes c.in-Some.rest.now) Envelope found.0
-    (rows_of (found_of c.in_ok-matches.matches)) (named ∙ ap Some c.in-Envelope.is)
-    (ap (λ ws. uses_of (names Envelope) (drop 1 (map (string_bytes {Z = Global}) ws))) (sym words_is) ∙ read) found.2)
-    c.envelope_request.ensures)
+    let found = rw words_is at c.in_ok-matches.ensures.read in
+    rw words_is (subst (Gives is_memory c.matched_request.result)
+    (request_of-matches (string_bytes c.in-Some.first.now) (map string_bytes c.in-Some.rest.now)
+    c.in-Some-of.command found.0 (found_of c.in_ok-matches.matches) named found.1 found.2)
+    c.matched_request.ensures)
