@@ -1,6 +1,6 @@
 -- Probes: what the levels of a walk leave of a scaled window, and where nothing can fill it.
-use Rattle.std.proofs.Common.{◌≡◌, ℕ, zero, suc, ◌+◌, ◌-◌, ◌*◌, ◌^◌, ◌<◌, ◌≤◌, Bool, true, false, leb, length}
-use Rattle.std.proofs.Common.{Option, Some, None, List, [], ◌∷◌, drop, refl, sym, ◌∙◌, inl, inr, subst, arith}
+use Rattle.std.proofs.Common.{◌≡◌, ℕ, zero, suc, ◌+◌, ◌-◌, ◌*◌, ◌^◌, ◌<◌, ◌≤◌, Bool, true, false, leb, min, length}
+use Rattle.std.proofs.Common.{Option, Some, None, List, [], ◌∷◌, drop, get_or, refl, sym, ◌∙◌, inl, inr, subst, arith}
 use Rattle.std.specs.List.{find, All}
 use Rattle.std.specs.Bool.{OnFalse}
 use Rattle.std.specs.Option.{IsNone, is_some}
@@ -10,10 +10,11 @@ use Rattle.std.proofs.Math.Nat.{mul-le-mul_right}
 use Rattle.mass_scaling.specs.Masses.{mass_of}
 use Rattle.mass_scaling.specs.declared.windows.Window.{Window}
 use Rattle.residue_table.specs.Sums.{IsSum, Reaches, HoldsNowhereIn}
-use Rattle.decompose.specs.CountLists.{box_of}
+use Rattle.decompose.specs.CountLists.{IsInBox, box_of}
 use Rattle.decompose.specs.Enumeration.{is_within}
 use Rattle.decompose.specs.Search.{is_left}
-use Rattle.decompose.specs.Levels.{IsSymbol, IsLevel, masses_of, scaled_masses_of, window_less, window_at}
+use Rattle.decompose.specs.Levels.{IsSymbol, IsLevel, masses_of, scaled_masses_of, limits_of, counts_of, window_less}
+use Rattle.decompose.specs.Levels.{window_at}
 use Rattle.decompose.specs.Probes.{HasNoList, IsScaledWindow, KnowsScaled, scaled_at}
 use Rattle.decompose.specs.Walk.{StandsAt}
 use Rattle.decompose.specs.declared.limits.Limit.{Limit}
@@ -21,6 +22,7 @@ use Rattle.decompose.specs.declared.levels.Symbol.{Symbol}
 use Rattle.decompose.specs.declared.levels.Level.{Level}
 use Rattle.decompose.proofs.FindAndFilter.{find_none}
 use Rattle.decompose.proofs.SearchSteps.{within_less}
+use Rattle.decompose.proofs.WalkSteps.{window_same}
 
 mass_of-nil : (masses : List ℕ) → mass_of masses [] ≡ 0
 mass_of-nil [] = refl
@@ -118,6 +120,55 @@ scaled_at_place (s ∷ ss) window scaled (v ∷ vs) (suc place) h w =
     scaled_at_place ss v.left (window_less scaled (v.count * s.scaled)) vs place h.1
     (scaled_below s ss window scaled (window_less scaled (v.count * s.scaled)) v w h.0 refl)
 
+-- what stands past the end of a list
+abbrev pub no_level : Level
+no_level = record { count = 0; left = record { lo = 0; hi = 0 } }
+
+abbrev pub no_symbol : Symbol
+no_symbol = record { mass = 0; scaled = 0; limit = record { low = 0; high = 0 } }
+
+-- the scaled mass of the counts before a place
+abbrev pub taken_at : List Symbol → List Level → ℕ → ℕ
+taken_at symbols levels zero = 0
+taken_at [] levels (suc place) = 0
+taken_at (s ∷ ss) [] (suc place) = 0
+taken_at (s ∷ ss) (v ∷ vs) (suc place) = v.count * s.scaled + taken_at ss vs place
+
+pub taken_more : (symbols : List Symbol) (levels : List Level) (place : ℕ) (d : Level) (e : Symbol) →
+    place < length levels → length levels ≡ length symbols →
+    taken_at symbols levels (place + 1) ≡
+    taken_at symbols levels place + (get_or levels place d).count * (get_or symbols place e).scaled
+taken_more [] levels place d e h f = absurd (omega arith)
+taken_more (s ∷ ss) [] place d e h f = absurd (omega arith)
+taken_more (s ∷ ss) (v ∷ vs) zero d e h f = omega arith
+taken_more (s ∷ ss) (v ∷ vs) (suc place) d e h f =
+    let one_more : suc place + 1 ≡ suc (place + 1) = omega arith in
+    rw one_more (omega (arith, taken_more ss vs place d e (omega arith) (omega arith)))
+
+-- no more is taken than a window has
+pub taken_less : (scaled : Window) (taken most : ℕ) → scaled.lo ≤ scaled.hi → scaled.hi ≤ most →
+    window_less scaled (min taken most) ≡ window_less scaled taken
+taken_less scaled taken most ordered in_range =
+    let lo : scaled.lo - min taken most ≡ scaled.lo - taken = omega arith in
+    let hi : scaled.hi - min taken most ≡ scaled.hi - taken = omega arith in
+    rw (lo, hi) refl
+
+nothing_less : (window : Window) → window_less window 0 ≡ window
+nothing_less window =
+    window_same (window_less window 0) window (omega arith) (omega arith)
+
+pub scaled_at-taken : (symbols : List Symbol) (levels : List Level) (scaled : Window) (place : ℕ) →
+    scaled_at symbols levels scaled place ≡ window_less scaled (taken_at symbols levels place)
+scaled_at-taken symbols levels scaled zero = sym (nothing_less scaled)
+scaled_at-taken [] levels scaled (suc place) = sym (nothing_less scaled)
+scaled_at-taken (s ∷ ss) [] scaled (suc place) = sym (nothing_less scaled)
+scaled_at-taken (s ∷ ss) (v ∷ vs) scaled (suc place) =
+    let taken : ℕ = v.count * s.scaled in
+    let below : ℕ = taken_at ss vs place in
+    let lo : scaled.lo - taken - below ≡ scaled.lo - (taken + below) = omega arith in
+    let hi : scaled.hi - taken - below ≡ scaled.hi - (taken + below) = omega arith in
+    scaled_at-taken ss vs (window_less scaled taken) place ∙ rw (lo, hi) refl
+
 -- the symbols from a place on
 pub symbols_at : (symbols : List Symbol) (place : ℕ) → All IsSymbol symbols → All IsSymbol (drop place symbols)
 symbols_at symbols zero h = h
@@ -139,6 +190,16 @@ scaled_fits symbol count s high =
     let few : count ≤ 10000 = omega (arith, s.limit.bounded) in
     let most = mul-le-mul_right symbol.scaled few in
     omega (arith, most, s.scaled_in_range)
+
+pub scaled_fits_at : (symbols : List Symbol) (levels : List Level) (place : ℕ) (d : Level) (e : Symbol) →
+    place < length levels → All IsSymbol symbols → IsInBox (limits_of symbols) (counts_of levels) →
+    (get_or levels place d).count * (get_or symbols place e).scaled < 2 ^ 64
+scaled_fits_at [] [] place d e h ok box = absurd (omega arith)
+scaled_fits_at [] (v ∷ vs) place d e h ok box = absurd box
+scaled_fits_at (s ∷ ss) [] place d e h ok box = absurd box
+scaled_fits_at (s ∷ ss) (v ∷ vs) zero d e h ok box = scaled_fits s v.count (ok 0 s (omega arith)) box.1
+scaled_fits_at (s ∷ ss) (v ∷ vs) (suc place) d e h ok box =
+    scaled_fits_at ss vs place d e (omega arith) (λ k l w. ok (suc k) l (omega arith)) box.2
 
 -- what a probe tells
 pub filled_or_not : (residues : List ℕ) (symbols : List Symbol) (scaled : Window) (found : Option ℕ) (r : Bool) →

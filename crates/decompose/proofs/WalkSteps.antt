@@ -89,7 +89,7 @@ over_next m l window level v (inr heavy) =
     let rest : level.left.hi ≡ window.hi - level.count * m = ap (λ (w : Window). w.hi) v.rest in
     inr (omega (arith, v.fits))
 
-window_same : (w v : Window) → w.lo ≡ v.lo → w.hi ≡ v.hi → w ≡ v
+pub window_same : (w v : Window) → w.lo ≡ v.lo → w.hi ≡ v.hi → w ≡ v
 window_same w v e f =
     let P : ℕ → ℕ → Type 0 = λ lo hi. w ≡ record { lo = lo; hi = hi } in
     subst (λ hi. P v.lo hi) f (subst (λ lo. P lo w.hi) e refl)
@@ -107,6 +107,29 @@ IsLevel-next m window level next v one fits rest =
       fits = omega (arith, v.fits);
       rest = window_same next.left (window_less window (next.count * m)) (omega arith) (omega arith);
     }
+
+-- what a level leaves is as wide as the window, as far as it is above 0
+pub level_narrow : (m : ℕ) (window : Window) (level : Level) (count hi : ℕ) → window.lo ≤ window.hi →
+    IsLevel m window level → level.count ≡ count → level.left.hi ≡ hi →
+    IsLevel m window record { count = count; left = record { lo = hi - (window.hi - window.lo); hi = hi } }
+level_narrow m window level count hi ordered v is_count is_hi =
+    let left_hi : level.left.hi ≡ window.hi - level.count * m = ap (λ (w : Window). w.hi) v.rest in
+    let taken : level.count * m ≡ count * m = ap (λ n. n * m) is_count in
+    record {
+      fits = omega (arith, v.fits, taken);
+      rest = window_same (record { lo = hi - (window.hi - window.lo); hi = hi }) (window_less window (count * m))
+          (omega (arith, left_hi, taken, is_hi, v.fits)) (omega (arith, left_hi, taken, is_hi));
+    }
+
+-- it stays so from one count to the next
+pub narrow_less : (width hi less m : ℕ) → less ≡ hi - m →
+    let now : Window = record { lo = less - width; hi = less } in now ≡ window_less (record { lo = hi - width; hi = hi }) m
+narrow_less width hi less m e =
+    window_same (record { lo = less - width; hi = less }) (window_less (record { lo = hi - width; hi = hi }) m)
+    (omega arith) (omega arith)
+
+pub not_below : (m hi : ℕ) → (m ≤ hi → ⊥) → hi < m
+not_below m hi h = elim (cases_lt hi m) [ inl lt ↦ lt | inr ge ↦ absurd (h ge) ]
 
 -- the ends of what a level leaves stand in order
 pub level_ordered : (m : ℕ) (window : Window) (level : Level) → IsLevel m window level → window.lo ≤ window.hi →

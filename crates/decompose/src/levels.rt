@@ -122,18 +122,19 @@ impl Symbol {
 }
 
 impl Symbol {
-    /// The same, where `remainder` is that of the window's upper end by the symbol's mass: without a
-    /// division where no multiple of the mass lies in the window.
-    pub(crate) fn first_by_remainder(self, window: Window, remainder: u64) -> Option<Level>
+    /// The same for the window of this upper end and width, as far as it is above 0, where `remainder` is that
+    /// of the upper end by the symbol's mass: without a division where no multiple of the mass lies in the window.
+    pub(crate) fn first_by_remainder(self, hi: u64, width: u64, remainder: u64) -> Option<Level>
         requires positive { 0 < self.mass }
-        requires ordered { window.lo ≤ window.hi }
-        requires remainder { remainder ≡ window.hi % self.mass }
-        ensures { MatchOption result (NoneIsWithin self window) (IsFirstWithin self window) }
+        requires remainder { remainder ≡ hi % self.mass }
+        ensures { MatchOption result (NoneIsWithin self (record { lo = hi - width; hi = hi }))
+            (IsFirstWithin self (record { lo = hi - width; hi = hi })) }
     {
-        if window.hi - window.lo < remainder {
+        if width < remainder {
             return None;
         }
-        self.first_within(window)
+        let lo = hi.saturating_sub(width);
+        self.first_within(Window { lo, hi })
     }
 
     /// The remainder by the symbol's mass of a number less another, of their remainders.

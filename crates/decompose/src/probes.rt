@@ -54,19 +54,17 @@ pub(crate) fn scaled_at(
     place: usize,
 ) -> Window
     requires place { place ≤ length levels.now }
+    requires one_each { length levels.now ≡ length symbols.now }
+    requires in_range { scaled.hi < 2 ^ 63 }
+    requires ordered { scaled.lo ≤ scaled.hi }
     requires symbols { All IsSymbol symbols.now }
     requires in_box { IsInBox (limits_of symbols.now) (counts_of levels.now) }
     ensures { result ≡ scaled_at symbols.now levels.now scaled place }
 {
-    if place == 0 {
-        return scaled;
+    let mut taken = 0u64;
+    for before in 0..place {
+        let mass = u64::from(levels[before].count) * symbols[before].scaled;
+        taken = taken.saturating_add(mass);
     }
-    let Some((symbol, below)) = symbols.split_first() else {
-        return scaled;
-    };
-    let Some((level, lower)) = levels.split_first() else {
-        return scaled;
-    };
-    let taken = u64::from(level.count) * symbol.scaled;
-    scaled_at(below, lower, window_less(scaled, taken), place - 1)
+    window_less(scaled, taken)
 }

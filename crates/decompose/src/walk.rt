@@ -42,21 +42,32 @@ fn find_in_pair(
     requires ordered { window.lo ≤ window.hi }
     ensures { FindsFirst (heavier ∷ lighter ∷ []) count window result levels.old levels.new }
 {
-    let Some(mut level) = heavier.level_at(window, count) else {
+    let Some(first) = heavier.level_at(window, count) else {
         return false;
     };
+    let width = window.hi - window.lo;
     let step = heavier.mass % lighter.mass;
-    let mut remainder = level.left.hi % lighter.mass;
+    let mut count = count;
+    let mut hi = first.left.hi;
+    let mut remainder = hi % lighter.mass;
     'counts: loop {
-        if let Some(last) = lighter.first_by_remainder(level.left, remainder) {
-            levels[0] = level;
+        if let Some(last) = lighter.first_by_remainder(hi, width, remainder) {
+            let lo = hi.saturating_sub(width);
+            levels[0] = Level {
+                count,
+                left: Window { lo, hi },
+            };
             levels[1] = last;
             return true;
         }
-        let Some(raised) = level.raised(heavier) else {
+        if heavier.limit.high <= count {
+            return false;
+        }
+        let Some(less) = hi.checked_sub(heavier.mass) else {
             return false;
         };
-        level = raised;
+        count += 1;
+        hi = less;
         remainder = lighter.remainder_less(remainder, step);
     }
 }

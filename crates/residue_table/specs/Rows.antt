@@ -31,11 +31,13 @@ pub record IsRow (masses entries : List ℕ) : Type 0 where
 abbrev pub BoundsRuns : List ℕ → List ℕ → Type 0
 BoundsRuns minima entries = (k : ℕ) → k < length entries → slice_index minima (k / RUN) ≤ slice_index entries k
 
--- a row with the minima of its runs
+-- a row with the minima of its runs and those of the runs of these
 pub record IsIndexed (row : Row) : Type 0 where
   pub some : 1 ≤ length row.entries.items
   pub runs : length row.entries.items ≤ RUN * length row.minima.items
   pub bounds : BoundsRuns row.minima.items row.entries.items
+  pub groups : length row.minima.items ≤ RUN * length row.group_minima.items
+  pub bounds_groups : BoundsRuns row.group_minima.items row.minima.items
   pub from_zero : slice_index row.entries.items 0 ≡ 0
 
 -- the rows of the levels from 1 on, as many as there are

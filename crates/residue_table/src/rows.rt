@@ -9,15 +9,16 @@ use std::alloc::{AllocError, Global};
 /// The entry of a residue that isn't reached. No number that is asked for comes up to it.
 pub(crate) const UNREACHED: u64 = 1 << 63;
 
-/// How many entries have one minimum.
-pub(crate) const RUN: usize = 64;
+/// How many entries have one minimum, and how many of these minima have one again.
+pub(crate) const RUN: usize = 16;
 
 /// The row of a level: for each residue of the modulus the least number that the level reaches. Beside it stand the
-/// minima of runs of entries, by which a probe passes over runs that reach nothing.
+/// minima of runs of entries and those of groups of runs, by which a probe passes over what reaches nothing.
 #[derive(Debug, Drop)]
 pub(crate) struct Row {
     pub(crate) entries: Vec<u64>,
     pub(crate) minima: Vec<u64>,
+    pub(crate) group_minima: Vec<u64>,
 }
 
 impl Row {
@@ -31,7 +32,12 @@ impl Row {
         ensures indexed { IfOk result IsIndexed }
     {
         let minima = minima_of(alloc, &entries)?;
-        Ok(Row { entries, minima })
+        let group_minima = minima_of(alloc, &minima)?;
+        Ok(Row {
+            entries,
+            minima,
+            group_minima,
+        })
     }
 
     /// Whether the level reaches a number.
@@ -101,23 +107,48 @@ impl Row {
             highest < slice_index self.now.entries.items k) }
         ensures none { IsNone result → (k : ℕ) → at ≤ k → k < end → highest < slice_index self.now.entries.items k }
     {
-        let first = at / RUN;
-        let last = (end - 1) / RUN;
-        let before = first_reached(&self.minima[first..last + 1], highest)?;
-        Some(first + before)
+        let stop = (end - 1) / RUN + 1;
+        let mut run = at / RUN;
+        while run < stop {
+            let group = self.next_group(run / RUN, (stop - 1) / RUN + 1, highest)?;
+            let first = run.max(group * RUN);
+            let next = stop.min(group * RUN + RUN);
+            match first_reached(&self.minima[first..next], highest) {
+                Some(before) => return Some(first + before),
+                None => run = next,
+            }
+        }
+        None
+    }
+
+    /// The first group of runs from `from` on and before `stop` that may have an entry of at most `highest`.
+    fn next_group(&self, from: usize, stop: usize, highest: u64) -> Option<usize>
+        requires { stop ≤ length self.now.group_minima.items }
+        ensures within { IfSome result (λ group. (from ≤ group) × (group < stop)) }
+        ensures passed { IfSome result (λ group. (k : ℕ) → from ≤ k → k < group →
+            highest < slice_index self.now.group_minima.items k) }
+        ensures none { IsNone result → (k : ℕ) → from ≤ k → k < stop →
+            highest < slice_index self.now.group_minima.items k }
+    {
+        for group in from..stop {
+            if self.group_minima[group] <= highest {
+                return Some(group);
+            }
+        }
+        None
     }
 }
 
-/// The minima of the runs of a row.
-fn minima_of(alloc: Global, entries: &[u64]) -> Result<Vec<u64>, AllocError>
-    ensures runs { IfOk result (λ minima. length entries.now ≤ RUN * length minima.items) }
-    ensures bounds { IfOk result (λ minima. BoundsRuns minima.items entries.now) }
+/// The minima of the runs of some numbers.
+fn minima_of(alloc: Global, numbers: &[u64]) -> Result<Vec<u64>, AllocError>
+    ensures runs { IfOk result (λ minima. length numbers.now ≤ RUN * length minima.items) }
+    ensures bounds { IfOk result (λ minima. BoundsRuns minima.items numbers.now) }
 {
     let mut minima = Vec::new(alloc);
-    for run in 0..entries.len().div_ceil(RUN) {
+    for run in 0..numbers.len().div_ceil(RUN) {
         let start = run * RUN;
-        let stop = entries.len().min(start + RUN);
-        minima.push(least_of(&entries[start..stop]))?;
+        let stop = numbers.len().min(start + RUN);
+        minima.push(least_of(&numbers[start..stop]))?;
     }
     Ok(minima)
 }

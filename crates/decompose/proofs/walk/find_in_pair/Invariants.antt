@@ -4,11 +4,11 @@ use Rattle.decompose.proofs.walk.find_in_pair.Given as goal
 
 abbrev pub invariant-counts : goal.invariant-counts
 invariant-counts l = record {
-  reaches : Reaches l.heavier (l.lighter ∷ []) l.count l.fn.window l.level;
-  step : l.step ≡ l.heavier.mass % l.lighter.mass;
-  remainder : l.remainder ≡ l.level.left.hi % l.lighter.mass;
+  reaches : Reaches l.heavier (l.lighter ∷ []) l.fn.count l.fn.window
+      record { count = l.count; left = record { lo = l.hi - l.width; hi = l.hi } };
+  remainder : l.remainder ≡ l.hi % l.lighter.mass;
   unchanged : l.levels ≡ l.initial.levels;
 }
 
 abbrev pub decreases-counts : goal.decreases-counts
-decreases-counts l = l.heavier.limit.high - l.level.count
+decreases-counts l = l.heavier.limit.high - l.count

@@ -5,7 +5,7 @@ use Rattle.residue_table.proofs.rows.minima_of.Goals as goal
 
 pub loop-run-preserved : goal.loop-run-preserved
 loop-run-preserved c =
-    let entries = c.args.entries.now in
+    let entries = c.args.numbers.now in
     let run = c.loop-run.run in
     let stop = c.min-stop.result in
     let is : c.push.new.self.items ≡ c.loop-run.minima.items ++ c.least_of.result ∷ [] = search rules in
@@ -15,6 +15,6 @@ loop-run-preserved c =
           (pushed_bounds c.loop-run.minima.items entries c.least_of.result run stop c.loop-run.invariant.one_each
           c.min-stop.ensures c.loop-run.invariant.bounds
           (λ j less.
-          let room : run * 64 + (stop - run * 64) ≤ length entries = omega (arith, less, c.min-stop.ensures) in
-          c.least_of.ensures j (omega (arith, less, length-chunk (run * 64) (stop - run * 64) entries room))));
+          let room : run * 16 + (stop - run * 16) ≤ length entries = omega (arith, less, c.min-stop.ensures) in
+          c.least_of.ensures j (omega (arith, less, length-chunk (run * 16) (stop - run * 16) entries room))));
     }

@@ -4,5 +4,5 @@ use Rattle.residue_table.proofs.rows.minima_of.Given as goal
 abbrev pub invariant-loop-run : goal.invariant-loop-run
 invariant-loop-run l = record {
   one_each : length l.minima.items ≡ l.run;
-  bounds : (k : ℕ) → k < length l.entries → k / 64 < l.run → get_or l.minima.items (k / 64) 0 ≤ get_or l.entries k 0;
+  bounds : (k : ℕ) → k < length l.numbers → k / 16 < l.run → get_or l.minima.items (k / 16) 0 ≤ get_or l.numbers k 0;
 }
