@@ -1,0 +1,9 @@
+pub mod FindLemmas
+pub mod MemberOrder
+pub mod ClaimTruth
+pub mod Parts
+pub mod RowLemmas
+pub mod BoundedMembers
+pub mod MemberViews
+pub mod Comparison
+pub mod Search

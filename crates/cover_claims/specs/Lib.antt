@@ -1,0 +1,9 @@
+pub use Rattle.isotopologue_sets.specs.Layers
+pub use Rattle.isotopologue_sets.specs.Coverage
+pub use Rattle.isotopologue_sets.specs.Covers
+pub use Rattle.isotopologue_neighbours.specs.Moves
+pub use Rattle.isotopologue_neighbours.specs.Closed
+pub mod CountsInRow
+pub mod Claims
+pub mod MemberRows
+pub mod ClaimMeaning
