@@ -136,7 +136,7 @@ number_from-in (s ∷ ss) w count most upto =
     ]
 
 -- a list in a scaled window has no count above the most
-in_room : (symbols : List Symbol) (hi most : ℕ) (cs : List ℕ) → length cs ≡ length symbols → HasRoom symbols hi most →
+pub in_room : (symbols : List Symbol) (hi most : ℕ) (cs : List ℕ) → length cs ≡ length symbols → HasRoom symbols hi most →
     mass_of (scaled_masses_of symbols) cs ≤ hi →
     IsInBox (replicate (length symbols) (record { low = 0; high = most })) cs
 in_room [] hi most [] e room fits = tt
@@ -145,7 +145,7 @@ in_room (s ∷ ss) hi most [] e room fits = absurd (omega arith)
 in_room (s ∷ ss) hi most (c ∷ cs) e room fits =
     (omega arith, room.0 c (omega (arith, fits)), in_room ss hi most cs (omega arith) room.1 (omega (arith, fits)))
 
-some_of : {X : Type 0} (xs : List X) (x : X) → Contains xs x → 1 ≤ length xs
+pub some_of : {X : Type 0} (xs : List X) (x : X) → Contains xs x → 1 ≤ length xs
 some_of xs x h = omega (arith, h.1)
 
 -- there is a list where one is known

@@ -15,3 +15,5 @@ pub mod ScaledEnds
 pub mod ChargedSteps
 pub mod ClimbedSteps
 pub mod WalkBounds
+pub mod StepSums
+pub mod WorkedBounds

@@ -16,12 +16,12 @@ use Rattle.decompose.specs.Probes.{HasNoList, IsScaledWindow}
 use Rattle.decompose.specs.StepBounds.{HasNoScaledWindow, IsScaledWindowOf}
 use Rattle.decompose.specs.declared.levels.Symbol.{Symbol}
 
-holds : (window : Window) (mass : ℕ) → is_within window mass ≡ true → Holds window mass
+pub holds : (window : Window) (mass : ℕ) → is_within window mass ≡ true → Holds window mass
 holds window mass t =
     let parts = and_parts (leb window.lo mass) (leb mass window.hi) t in
     (leb-true _ _ parts.0, leb-true _ _ parts.1)
 
-within_of : (window : Window) (mass : ℕ) → Holds window mass → is_within window mass ≡ true
+pub within_of : (window : Window) (mass : ℕ) → Holds window mass → is_within window mass ≡ true
 within_of window mass h = rw (le-leb window.lo mass h.0, le-leb mass window.hi h.1) refl
 
 -- a count list that is not above the window is not above the scaled one

@@ -32,7 +32,7 @@ same_scaled masses window v w p q =
     window_same v w (omega (arith, low, low_back)) (omega (arith, high, high_back))
 
 -- the last scaled mass is the least
-least_last : (scaled : List ℕ) → AreScaled scaled → All (λ a. base_of scaled ≤ a) scaled
+pub least_last : (scaled : List ℕ) → AreScaled scaled → All (λ a. base_of scaled ≤ a) scaled
 least_last scaled are k d within =
     elim (cases_lt k (length scaled - 1)) [
       | inl lt ↦ omega (
@@ -45,7 +45,7 @@ least_last scaled are k d within =
           omega (arith, ap (λ n. get_or scaled n d) last, get_or_default scaled (length scaled - 1) d 0 (omega arith))
     ]
 
-room_of : (symbols : List Symbol) (base hi : ℕ) → 0 < base → All (λ a. base ≤ a) (scaled_masses_of symbols) →
+pub room_of : (symbols : List Symbol) (base hi : ℕ) → 0 < base → All (λ a. base ≤ a) (scaled_masses_of symbols) →
     HasRoom symbols hi (hi / base)
 room_of [] base hi pos least = tt
 room_of (s ∷ ss) base hi pos least = (
