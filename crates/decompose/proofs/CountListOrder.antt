@@ -8,7 +8,7 @@ use Rattle.std.specs.List.{find, filter, AllByRecursion as Each}
 use Rattle.std.proofs.lemmas.Bool.{cases_Bool, and_parts, and_right, lt-ltb, le-ltb, eq-eqb, ne_eqb}
 use Rattle.std.proofs.lemmas.Cmp.{nat_list_cmp_total, tied_itself}
 use Rattle.decompose.specs.CountLists.{comes_after}
-use Rattle.decompose.specs.Search.{follows}
+use Rattle.decompose.specs.CountLists.{follows}
 use Rattle.decompose.proofs.FindAndFilter.{filter_each, find_each}
 
 less : (o : Ordering) → is_lt o ≡ true → o ≡ Less

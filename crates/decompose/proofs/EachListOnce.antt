@@ -15,7 +15,7 @@ use Rattle.decompose.specs.declared.limits.Limit.{Limit}
 use Rattle.decompose.proofs.CountListOrder.{Rises}
 use Rattle.decompose.proofs.FirstOfBox.{from_counts, IsInBox-box, Rises-box}
 
-contains_here : {X : Type 0} (x : X) (xs : List X) → Contains (x ∷ xs) x
+pub contains_here : {X : Type 0} (x : X) (xs : List X) → Contains (x ∷ xs) x
 contains_here x xs = (0, omega arith, refl)
 
 contains_later : {X : Type 0} (y : X) (xs : List X) (x : X) → Contains xs x → Contains (y ∷ xs) x
@@ -51,7 +51,7 @@ contains_from box a (suc n) c cs low high h =
     ]
 
 -- each list within the limits is one of the box
-contains_box : (limits : List Limit) (cs : List ℕ) → IsInBox limits cs → Contains (box_of limits) cs
+pub contains_box : (limits : List Limit) (cs : List ℕ) → IsInBox limits cs → Contains (box_of limits) cs
 unfolding box_of
 contains_box [] [] h = contains_here [] []
 contains_box [] (c ∷ cs) h = absurd h

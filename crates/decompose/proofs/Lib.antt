@@ -10,3 +10,10 @@ pub mod ProbeSteps
 pub mod NextGiven
 pub mod WalkKept
 pub mod EachListOnce
+pub mod CountedLists
+pub mod ScaledEnds
+pub mod ChargedSteps
+pub mod ClimbedSteps
+pub mod WalkBounds
+pub mod StepSums
+pub mod WorkedBounds

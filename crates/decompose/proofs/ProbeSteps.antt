@@ -1,21 +1,24 @@
 -- Probes: what the levels of a walk leave of a scaled window, and where nothing can fill it.
-use Rattle.std.proofs.Common.{◌≡◌, ℕ, zero, suc, ◌+◌, ◌-◌, ◌*◌, ◌^◌, ◌<◌, ◌≤◌, Bool, true, false, leb, min, length}
-use Rattle.std.proofs.Common.{Option, Some, None, List, [], ◌∷◌, drop, get_or, refl, sym, ◌∙◌, inl, inr, subst, arith}
+use Rattle.std.proofs.Common.{◌≡◌, ℕ, zero, suc, ◌+◌, ◌-◌, ◌*◌, ◌^◌, ◌<◌, ◌≤◌, Bool, true, false, leb, eqb, min, length}
+use Rattle.std.proofs.Common.{Option, Some, None, List, [], ◌∷◌, drop, get_or, refl, sym, ap, ◌∙◌, inl, inr, subst, arith}
 use Rattle.std.specs.List.{find, All}
-use Rattle.std.specs.Bool.{OnFalse}
+use Rattle.std.specs.Bool.{OnTrue, OnFalse}
 use Rattle.std.specs.Option.{IsNone, is_some}
-use Rattle.std.proofs.lemmas.Bool.{cases_Bool, and_left, and_parts, leb-true, false≢true}
+use Rattle.std.proofs.lemmas.Bool.{cases_Bool, and_left, and_parts, leb-true, le-leb, false≢true}
 use Rattle.std.proofs.lemmas.Bool.Decides.{nat_tests}
 use Rattle.std.proofs.Math.Nat.{mul-le-mul_right}
 use Rattle.mass_scaling.specs.Masses.{mass_of}
 use Rattle.mass_scaling.specs.declared.windows.Window.{Window}
-use Rattle.residue_table.specs.Sums.{IsSum, Reaches, HoldsNowhereIn}
+use Rattle.residue_table.specs.Sums.{IsSum, Reaches, IsLeastIn, HoldsNowhereIn}
+use Rattle.std.specs.Prelude.{IfSome}
+use Rattle.std.proofs.lemmas.List.{length-map}
+use Rattle.decompose.proofs.CountedLists.{counts_of_sum, sum_of_none}
 use Rattle.decompose.specs.CountLists.{IsInBox, box_of}
 use Rattle.decompose.specs.Enumeration.{is_within}
 use Rattle.decompose.specs.Search.{is_left}
 use Rattle.decompose.specs.Levels.{IsSymbol, IsLevel, masses_of, scaled_masses_of, limits_of, counts_of, window_less}
 use Rattle.decompose.specs.Levels.{window_at}
-use Rattle.decompose.specs.Probes.{HasNoList, IsScaledWindow, KnowsScaled, scaled_at}
+use Rattle.decompose.specs.Probes.{HasNoList, IsFilled, IsScaledWindow, KnowsScaled, scaled_at}
 use Rattle.decompose.specs.Walk.{StandsAt}
 use Rattle.decompose.specs.declared.limits.Limit.{Limit}
 use Rattle.decompose.specs.declared.levels.Symbol.{Symbol}
@@ -88,6 +91,10 @@ scaled_below s below window scaled rest level w v e =
           less_within scaled (level.count * s.scaled) (mass_of (scaled_masses_of below) cs)
           (w.keeps (level.count ∷ cs)
           (within_less window (level.count * s.mass) (mass_of (masses_of below) cs) v.fits ∙ (rw v.rest at h)));
+      keeps_below = λ cs h.
+          let left : level.left.hi ≡ window.hi - level.count * s.mass = ap (λ (x : Window). x.hi) v.rest in
+          let all = w.keeps_below (level.count ∷ cs) (omega (arith, h, v.fits, left)) in
+          omega (arith, all);
       not_empty = omega (arith, w.not_empty);
       in_range = omega (arith, w.in_range);
     }
@@ -208,3 +215,38 @@ pub filled_or_not : (residues : List ℕ) (symbols : List Symbol) (scaled : Wind
     OnFalse r ((counts : List ℕ) → is_within scaled (mass_of (scaled_masses_of symbols) counts) ≡ false)
 filled_or_not residues symbols scaled None r knows e none = rw e (none_fills residues symbols scaled knows (none refl))
 filled_or_not residues symbols scaled (Some v) r knows e none = rw e tt
+
+-- a level's count has a scaled mass that is not above the scaled window
+pub level_fits : (s : Symbol) (below : List Symbol) (window scaled : Window) (level : Level) →
+    IsScaledWindow (s ∷ below) window scaled → IsLevel s.mass window level → level.count * s.scaled ≤ scaled.hi
+level_fits s below window scaled level w v =
+    let none = mass_of-nil (masses_of below) in
+    let scaled_none = mass_of-nil (scaled_masses_of below) in
+    omega (arith, scaled_none, w.keeps_below (level.count ∷ []) (omega (arith, none, v.fits)))
+
+-- where a probe succeeds, a count list fills what is left
+pub is_filled : (residues : List ℕ) (symbols : List Symbol) (scaled : Window) (found : Option ℕ) (r : Bool) →
+    KnowsScaled residues symbols → r ≡ is_some found →
+    IfSome found (IsLeastIn (Reaches residues (length symbols)) scaled.lo scaled.hi) →
+    OnTrue r (IsFilled symbols scaled)
+is_filled residues symbols scaled None r knows e least = rw e tt
+is_filled residues symbols scaled (Some v) r knows e least =
+    let sum : IsSum (scaled_masses_of symbols) v = subst (λ xs. IsSum xs v) knows.last least.holds in
+    let counts = counts_of_sum (scaled_masses_of symbols) v sum in
+    let same : length counts.0 ≡ length symbols = counts.1 ∙ length-map symbols (λ symbol. symbol.scaled) in
+    let within : is_within scaled (mass_of (scaled_masses_of symbols) counts.0) ≡ true =
+    rw (counts.2, le-leb scaled.lo v least.not_below, le-leb v scaled.hi least.not_above) refl in
+    rw e (counts.0, same, within)
+
+-- no atom at all fills a window that reaches down to 0
+pub is_filled_by_none : (symbols : List Symbol) (scaled : Window) → scaled.lo ≡ 0 →
+    OnTrue (eqb scaled.lo 0) (IsFilled symbols scaled)
+is_filled_by_none symbols scaled e =
+    let counts = counts_of_sum (scaled_masses_of symbols) 0 (sum_of_none (scaled_masses_of symbols)) in
+    let same : length counts.0 ≡ length symbols = counts.1 ∙ length-map symbols (λ symbol. symbol.scaled) in
+    let within : is_within scaled (mass_of (scaled_masses_of symbols) counts.0) ≡ true =
+    rw (counts.2, e, le-leb 0 scaled.hi (omega arith)) refl in
+    elim (cases_Bool (eqb scaled.lo 0)) [
+      | inl t ↦ rw t (counts.0, same, within)
+      | inr f ↦ rw f tt
+    ]

@@ -14,7 +14,8 @@ use Rattle.mass_scaling.specs.Masses.{mass_of}
 use Rattle.decompose.specs.CountLists.{IsInBox, box_of}
 use Rattle.decompose.specs.Enumeration.{is_within}
 use Rattle.decompose.specs.Levels.{window_less}
-use Rattle.decompose.specs.Search.{follows, is_left}
+use Rattle.decompose.specs.Search.{is_left}
+use Rattle.decompose.specs.CountLists.{follows}
 use Rattle.decompose.specs.declared.limits.Limit.{Limit}
 use Rattle.mass_scaling.specs.declared.windows.Window.{Window}
 use Rattle.decompose.proofs.FindAndFilter.{find_none, find_agree}

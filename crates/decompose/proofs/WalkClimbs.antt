@@ -6,7 +6,8 @@ use Rattle.std.specs.List.{find}
 use Rattle.std.proofs.lemmas.Bool.{and_right, cases_lt}
 use Rattle.decompose.specs.CountLists.{IsInBox, box_of}
 use Rattle.decompose.specs.Enumeration.{is_within}
-use Rattle.decompose.specs.Search.{follows, is_left}
+use Rattle.decompose.specs.Search.{is_left}
+use Rattle.decompose.specs.CountLists.{follows}
 use Rattle.decompose.specs.Levels.{IsSymbol, AreLevels, window_at, masses_of, limits_of, counts_of}
 use Rattle.decompose.specs.Walk.{limits_from, StandsAt}
 use Rattle.decompose.specs.declared.limits.TheConstants.{MAX_COUNT}
@@ -97,7 +98,7 @@ climb_levels (s ∷ ss) window [] new place h found = absurd h
 climb_levels (s ∷ ss) window (v ∷ vs) new zero h found = found
 climb_levels (s ∷ ss) window (v ∷ vs) new (suc place) h found = (h.0, climb_levels ss v.left vs new place h.1 found)
 
-counts_behind : (levels new : List Level) (place : ℕ) →
+pub counts_behind : (levels new : List Level) (place : ℕ) →
     take place (counts_of levels) ++ counts_of new ≡ counts_of (take place levels ++ new)
 counts_behind [] new zero = refl
 counts_behind [] new (suc place) = refl

@@ -16,6 +16,7 @@ use Rattle.mass_scaling.specs.Masses.{base_of}
 use Rattle.mass_scaling.specs.Scales.{Scaling, scaled_of, grain_for}
 use Rattle.decompose.specs.Probes.{AreTables, HasNoList, IsScaledWindow, KnowsScaled}
 use Rattle.decompose.specs.Levels.{scaled_masses_of, symbols_of, masses_of, limits_of, counts_of, AreLevels}
+use Rattle.decompose.specs.StepBounds.{HasNoScaledWindow, IsScaledWindowOf}
 use Rattle.decompose.specs.Walk.{IsWalk, StandsAt, given_of}
 use Rattle.decompose.specs.declared.limits.Limit.{Limit}
 use Rattle.decompose.specs.declared.levels.Symbol.{Symbol}
@@ -68,6 +69,7 @@ module _ (masses : List ℕ) (symbols : List Symbol) (window : Window) (scaled :
           (counts_of new) (sym next_is ∙ found);
     };
     scaled_window = w.scaled_window;
+    exact = w.exact;
     stands_at = stands_at_all symbols window new are;
   }
 
@@ -84,6 +86,7 @@ IsWalk-end masses symbols window scaled levels None w none = record {
   one_level_each = w.one_level_each;
   enumerates = w.enumerates;
   scaled_window = w.scaled_window;
+  exact = w.exact;
   stands_at = tt;
 }
 IsWalk-end masses symbols window scaled levels (Some depth) w none = record {
@@ -93,6 +96,7 @@ IsWalk-end masses symbols window scaled levels (Some depth) w none = record {
   one_level_each = w.one_level_each;
   enumerates = w.enumerates;
   scaled_window = w.scaled_window;
+  exact = w.exact;
   stands_at = none;
 }
 
@@ -106,7 +110,8 @@ module _ (masses : List ℕ) (scale : Scaling) (residues : List ℕ) (limits : L
     (scaled : Option Window) (tables : AreTables masses scale residues) (one : length limits ≡ length masses)
     (limits_ok : All IsLimit limits) (window_ok : IsWindow window)
     (scaled_ok : (symbols : List Symbol) → masses_of symbols ≡ masses → scaled_masses_of symbols ≡ scaled_of masses →
-    MatchOption scaled (HasNoList symbols window) (IsScaledWindow symbols window)) where
+    MatchOption scaled (HasNoList symbols window) (IsScaledWindow symbols window))
+    (exact : MatchOption scaled (HasNoScaledWindow masses window) (IsScaledWindowOf masses window)) where
   pub scaled_length : length scale.scaled ≡ length masses
   scaled_length = ap length tables.scale_is.scaled ∙ length-map masses (λ m. m / grain_for (base_of masses))
 
@@ -125,6 +130,7 @@ module _ (masses : List ℕ) (scale : Scaling) (residues : List ℕ) (limits : L
     scaled_window = scaled_ok (symbols_of masses scale.scaled limits)
         (masses_are masses scale.scaled limits scaled_length one)
         (scaled_are masses scale.scaled limits scaled_length one ∙ tables.scale_is.scaled);
+    exact = exact;
     stands_at = standing;
   }
 

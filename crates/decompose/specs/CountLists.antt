@@ -1,5 +1,5 @@
 -- Limits on counts, the box of all count lists within them, and the lexicographic order of count lists.
-use Rattle.std.specs.Prelude.{ℕ, ◌-◌, ◌+◌, ◌≤◌, Bool, List, [], ◌∷◌, map}
+use Rattle.std.specs.Prelude.{ℕ, ◌-◌, ◌+◌, ◌≤◌, Bool, true, not, List, [], ◌∷◌, map, Option, Some, None}
 use Rattle.std.specs.List.{flat_map, range_with_len}
 use Rattle.std.specs.Ordering.{is_lt, nat_cmp}
 use Rattle.std.specs.Cmp.Lexicographic.{slice_cmp}
@@ -30,3 +30,13 @@ box_of (l ∷ ls) = flat_map (λ c. map (λ cs. c ∷ cs) (box_of ls)) (counts_w
 -- whether the count list x comes after c in lexicographic order
 abbrev pub comes_after : List ℕ → List ℕ → Bool
 comes_after c x = is_lt (slice_cmp nat_cmp c x)
+
+-- whether a count list comes after another, if there is one
+abbrev pub follows : Option (List ℕ) → List ℕ → Bool
+follows None counts = true
+follows (Some c) counts = comes_after c counts
+
+-- whether a count list does not come after another, if there is one
+abbrev pub is_up_to : Option (List ℕ) → List ℕ → Bool
+is_up_to None counts = true
+is_up_to (Some c) counts = not (comes_after c counts)

@@ -6,3 +6,5 @@ pub mod Search
 pub mod Levels
 pub mod Probes
 pub mod Walk
+pub mod StepBounds
+pub mod Numbers

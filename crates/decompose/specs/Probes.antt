@@ -8,12 +8,21 @@ use Rattle.decompose.specs.Levels.{masses_of, scaled_masses_of, window_less}
 use Rattle.decompose.specs.declared.levels.Symbol.{Symbol}
 use Rattle.decompose.specs.declared.levels.Level.{Level}
 
--- a scaled window of a window: each count list whose mass is in the window has its scaled mass in the scaled one
+-- a scaled window of a window: each count list whose mass is in the window has its scaled mass in the scaled one, and
+-- each whose mass is not above the window has its scaled mass not above the scaled one
 pub record IsScaledWindow (symbols : List Symbol) (window scaled : Window) : Type 0 where
   pub keeps : (counts : List ℕ) → is_within window (mass_of (masses_of symbols) counts) ≡ true →
       is_within scaled (mass_of (scaled_masses_of symbols) counts) ≡ true
+  pub keeps_below : (counts : List ℕ) → mass_of (masses_of symbols) counts ≤ window.hi →
+      mass_of (scaled_masses_of symbols) counts ≤ scaled.hi
   pub not_empty : scaled.lo ≤ scaled.hi
   pub in_range : scaled.hi < 2 ^ 63
+
+-- some count list over these symbols has its scaled mass in a scaled window
+abbrev pub IsFilled : List Symbol → Window → Type 0
+IsFilled symbols scaled =
+    (counts : List ℕ) × (length counts ≡ length symbols)
+    × (is_within scaled (mass_of (scaled_masses_of symbols) counts) ≡ true)
 
 -- a table of residues knows these symbols: its last scaled masses are theirs
 pub record KnowsScaled (residues : List ℕ) (symbols : List Symbol) : Type 0 where

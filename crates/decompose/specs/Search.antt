@@ -1,9 +1,9 @@
 -- For proofs alone: how an enumeration is kept, and what the search for its next count list looks for.
-use Rattle.std.specs.Prelude.{ℕ, ◌≡◌, Bool, true, ◌&&◌, List, length, All, Option, Some, None, IfSome}
+use Rattle.std.specs.Prelude.{ℕ, ◌≡◌, Bool, ◌&&◌, List, length, All, Option, IfSome}
 use Rattle.mass_scaling.specs.declared.windows.Window.{Window}
 use Rattle.mass_scaling.specs.Windows.{IsWindow}
 use Rattle.mass_scaling.specs.Masses.{mass_of}
-use Rattle.decompose.specs.CountLists.{IsLimit, IsInBox, comes_after}
+use Rattle.decompose.specs.CountLists.{IsLimit, IsInBox, follows}
 use Rattle.decompose.specs.Enumeration.{Enumeration, is_within}
 use Rattle.decompose.specs.declared.limits.Limit.{Limit}
 
@@ -19,11 +19,6 @@ pub record IsEnumeration (e : Enumeration) : Type 0 where
   pub limits : All IsLimit e.limits
   pub window : IsWindow e.window
   pub given : IfSome e.given (IsInBox e.limits)
-
--- whether a count list comes after the one given last, if there is one
-abbrev pub follows : Option (List ℕ) → List ℕ → Bool
-follows None counts = true
-follows (Some c) counts = comes_after c counts
 
 -- whether a count list is still to be given: its mass is in the window, and it comes after the last
 abbrev pub is_left : List ℕ → Window → Option (List ℕ) → List ℕ → Bool

@@ -8,6 +8,7 @@ use Rattle.decompose.specs.Search.{IsEnumeration, enumeration, is_left}
 use Rattle.mass_scaling.specs.Scales.{scaled_of}
 use Rattle.decompose.specs.Levels.{IsSymbol, IsLevel, AreLevels, masses_of, scaled_masses_of, limits_of, counts_of}
 use Rattle.decompose.specs.Probes.{HasNoList, IsScaledWindow}
+use Rattle.decompose.specs.StepBounds.{HasNoScaledWindow, IsScaledWindowOf}
 use Rattle.decompose.specs.declared.limits.Limit.{Limit}
 use Rattle.decompose.specs.declared.levels.Symbol.{Symbol}
 use Rattle.decompose.specs.declared.levels.Level.{Level}
@@ -51,4 +52,5 @@ pub record IsWalk (masses : List ℕ) (symbols : List Symbol) (window : Window) 
   pub one_level_each : length levels ≡ length symbols
   pub enumerates : IsEnumeration (enumeration masses (limits_of symbols) window (given_of stands (counts_of levels)))
   pub scaled_window : MatchOption scaled (HasNoList symbols window) (IsScaledWindow symbols window)
+  pub exact : MatchOption scaled (HasNoScaledWindow masses window) (IsScaledWindowOf masses window)
   pub stands_at : IfSome stands (StandsAt symbols window levels)

@@ -1,5 +1,5 @@
 //! The enumeration of the count lists of a window.
-ghost use Rattle.std.specs.Prelude.{◌≡◌, ◌<◌, ◌↔◌, ℕ, List, [], ◌∷◌, length, All, AllPairs, Contains, not, IsTrue};
+ghost use Rattle.std.specs.Prelude.{◌≡◌, ◌+◌, ◌<◌, ◌≤◌, ◌↔◌, if◌then◌else◌, ℕ, List, [], ◌∷◌, length, All, AllPairs, Contains, not, IsTrue};
 ghost use Rattle.std.specs.Prelude.{IfOk, OnOk, IsErrOf, IsSomeAnd, Some, None, MatchBool};
 ghost use Rattle.std.specs.Bool.{OnTrue, OnFalse};
 ghost use Rattle.std.specs.List.{find};
@@ -7,7 +7,9 @@ ghost use Rattle.mass_scaling.specs.Masses.{mass_of};
 ghost use Rattle.decompose.specs.CountLists.{IsLimit, IsInBox, box_of, comes_after};
 ghost use Rattle.decompose.specs.Enumeration.{vectors, lists_after, left, is_within};
 ghost use Rattle.decompose.specs.Search.{is_left};
+ghost use Rattle.decompose.specs.StepBounds.{HasNoScaledWindow, IsScaledWindowOf, most_steps};
 ghost use Rattle.mass_scaling.specs.Windows.{IsWindow};
+ghost use Rattle.mass_scaling.specs.declared.windows.Window.{Window};
 
 use crate::count_list::Counts;
 use crate::faults::ResumeFault;
@@ -149,7 +151,10 @@ impl<'t> Decomps<'t> {
 
     /// Walks on to the first list that is left; false where none is.
     fn walk_on<L: Ledger>(&mut self, steps: &mut Steps<L>) -> bool
-        ensures { MatchBool result
+        ensures steps { (scaled : Window) → IsScaledWindowOf self.old.masses self.old.window scaled → steps.new ≤
+            steps.old + most_steps self.old.masses scaled self.old.given (if result then self.new.given else None) }
+        ensures no_steps { HasNoScaledWindow self.old.masses self.old.window → steps.new ≡ steps.old }
+        ensures walks { MatchBool result
             (IsSomeAnd self.new.given (λ next.
             (find (is_left self.old.masses self.old.window self.old.given) (box_of self.old.limits) ≡ Some next)
             × (self.new ≡ record self.old { given = Some next })))
@@ -188,6 +193,9 @@ impl<'t> Decomps<'t> {
         ensures unchanged { OnFalse result (self.new ≡ self.old) }
         ensures out_unchanged { OnFalse result (out.new ≡ out.old) }
         ensures length { length out.new ≡ length out.old }
+        ensures steps { (scaled : Window) → IsScaledWindowOf self.old.masses self.old.window scaled → steps.new ≤
+            steps.old + most_steps self.old.masses scaled self.old.given (if result then Some out.new else None) }
+        ensures no_steps { HasNoScaledWindow self.old.masses self.old.window → steps.new ≡ steps.old }
     {
         if !self.walk_on(steps) {
             return false;

@@ -1,13 +1,14 @@
 //! Probes: whether what is left of a scaled window can be filled.
-ghost use Rattle.std.specs.Prelude.{ℕ, ◌≡◌, ◌^◌, ◌<◌, ◌≤◌, List, false, length, All, MatchOption};
-ghost use Rattle.std.specs.Bool.{OnFalse};
+ghost use Rattle.std.specs.Prelude.{ℕ, ◌≡◌, ◌+◌, ◌^◌, ◌<◌, ◌≤◌, List, false, length, All, MatchOption};
+ghost use Rattle.std.specs.Bool.{OnTrue, OnFalse};
 ghost use Rattle.decompose.specs.CountLists.{IsInBox};
 ghost use Rattle.decompose.specs.Enumeration.{is_within};
 ghost use Rattle.decompose.specs.Levels.{IsSymbol, masses_of, scaled_masses_of, limits_of, counts_of};
 ghost use Rattle.mass_scaling.specs.Masses.{mass_of};
 ghost use Rattle.mass_scaling.specs.Scales.{scaled_of};
 ghost use Rattle.decompose.specs.declared.levels.Symbol.{Symbol};
-ghost use Rattle.decompose.specs.Probes.{HasNoList, IsScaledWindow, KnowsScaled, scaled_at};
+ghost use Rattle.decompose.specs.Probes.{HasNoList, IsFilled, IsScaledWindow, KnowsScaled, scaled_at};
+ghost use Rattle.decompose.specs.StepBounds.{HasNoScaledWindow, IsScaledWindowOf};
 
 use crate::levels::{Level, Symbol, window_less};
 use crate::mass_tables::Tables;
@@ -18,9 +19,10 @@ use std::sync::ledger::Ledger;
 
 /// The window of the scaled masses that count lists of a window can have; None where there is none.
 pub(crate) fn scaled_window_of(tables: &Tables, window: Window) -> Option<Window>
-    ensures { (symbols : List Symbol) → masses_of symbols ≡ tables.now
+    ensures loses_nothing { (symbols : List Symbol) → masses_of symbols ≡ tables.now
         → scaled_masses_of symbols ≡ scaled_of tables.now
         → MatchOption result (HasNoList symbols window) (IsScaledWindow symbols window) }
+    ensures exact { MatchOption result (HasNoScaledWindow tables.now window) (IsScaledWindowOf tables.now window) }
 {
     scaled_window(&tables.masses, &tables.scale, window)
 }
@@ -37,8 +39,10 @@ pub(crate) fn may_fill<L: Ledger>(
     requires knows { KnowsScaled residues.now symbols.now }
     requires ordered { scaled.lo ≤ scaled.hi }
     requires in_range { scaled.hi < 2 ^ 63 }
-    ensures { OnFalse result ((counts : List ℕ) →
+    ensures unfilled { OnFalse result ((counts : List ℕ) →
         is_within scaled (mass_of (scaled_masses_of symbols.now) counts) ≡ false) }
+    ensures filled { OnTrue result (IsFilled symbols.now scaled) }
+    ensures one_step { steps.new ≤ steps.old + 1 }
 {
     scaled.lo == 0
         || residues

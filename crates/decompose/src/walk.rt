@@ -1,11 +1,12 @@
 //! The walk over the count lists of a window, in lexicographic order.
-ghost use Rattle.std.specs.Prelude.{◌≡◌, ◌<◌, ◌≤◌, [], ◌∷◌, length, All, Some, None, MatchBool, MatchOption, IfSome};
+ghost use Rattle.std.specs.Prelude.{ℕ, ◌≡◌, ◌+◌, ◌*◌, ◌<◌, ◌≤◌, [], ◌∷◌, length, All, Some, None, MatchBool, MatchOption, IfSome};
 ghost use Rattle.std.specs.Bool.{OnTrue, OnFalse};
 ghost use Rattle.std.specs.List.{find};
 ghost use Rattle.decompose.specs.CountLists.{IsInBox, box_of};
 ghost use Rattle.decompose.specs.Search.{is_left};
 ghost use Rattle.decompose.specs.Levels.{IsSymbol, AreLevels, window_at, masses_of, limits_of, counts_of};
 ghost use Rattle.decompose.specs.Probes.{IsScaledWindow, KnowsScaled, HasNoList};
+ghost use Rattle.decompose.specs.Numbers.{HasRoom, number_in, number_from, number_after, found_list};
 ghost use Rattle.decompose.specs.Walk.{limits_from, FindsFirst, StandsAt, given_of};
 
 use crate::levels::{Level, Symbol, window_less};
@@ -91,7 +92,9 @@ fn find_from<L: Ledger>(
     requires ordered { window.lo ≤ window.hi }
     requires scaled { IsScaledWindow symbols.now window scaled }
     requires knows { KnowsScaled residues.now symbols.now }
-    ensures { FindsFirst symbols.now count window result levels.old levels.new }
+    ensures finds { FindsFirst symbols.now count window result levels.old levels.new }
+    ensures steps { (most : ℕ) → HasRoom symbols.now scaled.hi most → steps.new ≤ steps.old + (most + 1) * (1 +
+        length symbols.now * number_from symbols.now scaled count most (found_list result (counts_of levels.new))) }
 {
     let Some((symbol, below)) = symbols.split_first() else {
         return window.lo == 0;
@@ -142,7 +145,10 @@ fn find_first<L: Ledger>(
     requires ordered { window.lo ≤ window.hi }
     requires scaled { IsScaledWindow symbols.now window scaled }
     requires knows { KnowsScaled residues.now symbols.now }
-    ensures { MatchBool result
+    requires some { 1 ≤ length symbols.now }
+    ensures steps { (most : ℕ) → HasRoom symbols.now scaled.hi most → steps.new ≤ steps.old + length symbols.now
+        * (most + 1) * (number_in symbols.now scaled most (found_list result (counts_of levels.new)) + 1) }
+    ensures finds { MatchBool result
         ((find (is_left (masses_of symbols.now) window None) (box_of (limits_of symbols.now))
         ≡ Some (counts_of levels.new)) × AreLevels symbols.now window levels.new)
         ((find (is_left (masses_of symbols.now) window None) (box_of (limits_of symbols.now)) ≡ None)
@@ -185,7 +191,10 @@ fn find_next<L: Ledger>(
     requires knows { KnowsScaled residues.now symbols.now }
     requires stands { StandsAt symbols.now window levels.old depth }
     requires in_box { IsInBox (limits_of symbols.now) (counts_of levels.old) }
-    ensures { MatchBool result
+    ensures steps { (most : ℕ) → HasRoom symbols.now scaled.hi most → steps.new ≤ steps.old + length symbols.now
+        * (most + 1) * (number_after symbols.now scaled (Some (counts_of levels.old)) most
+        (found_list result (counts_of levels.new)) + 1) }
+    ensures finds { MatchBool result
         ((find (is_left (masses_of symbols.now) window (Some (counts_of levels.old))) (box_of (limits_of symbols.now))
         ≡ Some (counts_of levels.new)) × AreLevels symbols.now window levels.new)
         ((find (is_left (masses_of symbols.now) window (Some (counts_of levels.old)))
@@ -230,9 +239,13 @@ pub(crate) fn find_left<L: Ledger>(
     requires ordered { window.lo ≤ window.hi }
     requires scaled { MatchOption scaled (HasNoList symbols.now window) (IsScaledWindow symbols.now window) }
     requires knows { KnowsScaled residues.now symbols.now }
+    requires some { 1 ≤ length symbols.now }
     requires stands { IfSome stands (StandsAt symbols.now window levels.old) }
     requires in_box { IfSome (given_of stands (counts_of levels.old)) (IsInBox (limits_of symbols.now)) }
-    ensures { MatchBool result
+    ensures steps { MatchOption scaled (steps.new ≡ steps.old) (λ scaled. (most : ℕ) → HasRoom symbols.now scaled.hi most
+        → steps.new ≤ steps.old + length symbols.now * (most + 1) * (number_after symbols.now scaled
+        (given_of stands (counts_of levels.old)) most (found_list result (counts_of levels.new)) + 1)) }
+    ensures finds { MatchBool result
         ((find (is_left (masses_of symbols.now) window (given_of stands (counts_of levels.old)))
         (box_of (limits_of symbols.now)) ≡ Some (counts_of levels.new)) × AreLevels symbols.now window levels.new)
         ((find (is_left (masses_of symbols.now) window (given_of stands (counts_of levels.old)))

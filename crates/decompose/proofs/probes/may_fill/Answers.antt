@@ -1,8 +1,17 @@
 use Rattle.std.proofs.Common.{rules}
-use Rattle.decompose.proofs.ProbeSteps.{filled_or_not}
+use Rattle.decompose.proofs.ProbeSteps.{filled_or_not, is_filled, is_filled_by_none}
 use Rattle.decompose.proofs.probes.may_fill.Goals as goal
 
-pub returns-else-scaled-eq0 : goal.returns-else-scaled-eq0
-returns-else-scaled-eq0 g c =
+pub returns-else-scaled-eq0-clause-unfilled : goal.returns-else-scaled-eq0-clause-unfilled
+returns-else-scaled-eq0-clause-unfilled g c =
     filled_or_not c.args.residues.now c.args.symbols.now c.args.scaled c.first_in.result c.is_some.result
     c.requires.knows (search rules) c.first_in.ensures.none.0
+
+pub returns-else-scaled-eq0-clause-filled : goal.returns-else-scaled-eq0-clause-filled
+returns-else-scaled-eq0-clause-filled g c =
+    is_filled c.args.residues.now c.args.symbols.now c.args.scaled c.first_in.result c.is_some.result
+    c.requires.knows (search rules) c.first_in.ensures.least
+
+pub returns-then-scaled-eq0-clause-filled : goal.returns-then-scaled-eq0-clause-filled
+returns-then-scaled-eq0-clause-filled g c =
+    is_filled_by_none c.args.symbols.now c.args.scaled c.if-scaled-eq0.true
