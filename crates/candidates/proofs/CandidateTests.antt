@@ -1,13 +1,12 @@
 -- A count list in the window of a peak is a candidate where its formula is within the limits, has an ion and meets the
 -- rules.
-use Rattle.std.proofs.Common.{◌≡◌, ℕ, ◌*◌, ◌<◌, ◌≤◌, Bool, true, false, cond, ltb, List, [], ◌∷◌, length, refl, sym, ap, subst, ◌∙◌, arith}
-use Rattle.std.specs.Prelude.{ℤ, pos, ◌+ℤ◌, All, Option, Some, None, Ok, Err, is_some, ◌&&◌, ◌||◌, nat_le, not, position, option_map}
+use Rattle.std.proofs.Common.{◌≡◌, ℕ, ◌*◌, ◌<◌, ◌≤◌, Bool, true, false, cond, ltb, List, [], ◌∷◌, length, refl, sym, ap, ◌∙◌, arith}
+use Rattle.std.specs.Prelude.{pos, ◌+ℤ◌, All, Option, Some, None, Ok, Err, is_some, ◌&&◌, ◌||◌, nat_le, not, position, option_map}
 use Rattle.std.specs.List.{AllByRecursion, list_all, list_any}
 use Rattle.std.proofs.lemmas.Bool.{false≢true, and_parts, leb-true, le-ltb}
 use Rattle.std.proofs.lemmas.Bool.Decides.{nat_tests}
 use Rattle.mass_scaling.specs.Tolerances.{within}
 use Rattle.decompose.specs.Masses as lists
-use Rattle.element_table.specs.Elements.{TableEntries}
 use Rattle.written_items.specs.declared.item.Item.{Item}
 use Rattle.formula_text.specs.declared.fault.PartsFault.TheVariants.{TooManyAtoms, TooManyElements}
 use Rattle.formula_text.specs.Formulas.{IsFormula, IsItem, atoms_of, formula_in, formula_of, has_many_atoms, has_many_items, sum_of, within_limits}
@@ -15,7 +14,7 @@ use Rattle.formula_text.proofs.SumLimits.{sum_of-IsParts}
 use Rattle.formula_text.specs.Masses.{mass_of, item_mass}
 use Rattle.adducts.specs.Adducts.{divisor_of}
 use Rattle.adducts.specs.Ions.{ion_of, ion_mass, mass_of_ion, shift_of}
-use Rattle.adducts.proofs.ItemLists.{Distinct, sum-Distinct}
+use Rattle.adducts.proofs.ItemLists.{sum-Distinct}
 use Rattle.adducts.proofs.IonCounts.{formula-is_sum, ion_of-shift}
 use Rattle.adducts.proofs.WeighedSums.{weigh-sum_of}
 use Rattle.golden_rules.specs.Verdicts.{meets, meets_all, verdict_at}

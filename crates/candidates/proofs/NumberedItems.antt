@@ -1,14 +1,14 @@
 -- Items with the numbers of their places.
-use Rattle.std.proofs.Common.{◌≡◌, ℕ, zero, suc, ◌+◌, ◌-◌, ◌*◌, ◌<◌, ◌≤◌, Bool, true, false, cond, ltb, List, [], ◌∷◌, ◌++◌, length, get_or, take, filter, refl, sym, ap, subst, ◌∙◌, arith}
+use Rattle.std.proofs.Common.{◌≡◌, ℕ, zero, suc, ◌+◌, ◌-◌, ◌*◌, ◌<◌, ◌≤◌, Bool, true, false, cond, ltb, List, [], ◌∷◌, ◌++◌, length, get_or, take, filter, refl, sym, ap, ◌∙◌, arith}
 use Rattle.std.specs.Prelude.{not, ◌&&◌, ◌||◌, AllPairs, Ok}
-use Rattle.std.specs.List.{AllByRecursion, list_any, zip}
-use Rattle.std.proofs.lemmas.Bool.{false≢true, and_parts, and_from, ltb-true, ltb-false, le-ltb, lt-ltb}
+use Rattle.std.specs.List.{list_any, zip}
+use Rattle.std.proofs.lemmas.Bool.{false≢true, ltb-false, le-ltb, lt-ltb}
 use Rattle.written_items.specs.declared.item.Item.{Item}
 use Rattle.written_items.specs.Items.{item_eq}
 use Rattle.formula_text.specs.Formulas.{count_in, atoms_of, has_carbon, sum_of, parts_of}
 use Rattle.formula_text.proofs.CountsInOrder.{share, count_in-cons, atoms_of-cons}
-use Rattle.formula_text.proofs.HillOrderLaws.{item_eq-same, item_eq-symm}
-use Rattle.formula_text.proofs.SumFolds.{with_atoms, sum_of-atoms}
+use Rattle.formula_text.proofs.HillOrderLaws.{item_eq-same}
+use Rattle.formula_text.proofs.SumFolds.{sum_of-atoms}
 use Rattle.formula_text.proofs.SumLimits.{parts_of-within}
 use Rattle.adducts.specs.Ions.{has_item}
 use Rattle.adducts.proofs.ItemLists.{Distinct, count_in-absent, sum-entries, Distinct-filter}

@@ -1,4 +1,4 @@
-use Rattle.std.proofs.Common.{◌≡◌, ◌≤◌, length, take}
+use Rattle.std.proofs.Common.{◌≡◌, ◌≤◌, take}
 use Rattle.candidates.specs.HillOrders.{with_counts}
 use Rattle.candidates.proofs.hill.write_counts.Given as goal
 

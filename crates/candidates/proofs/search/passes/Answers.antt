@@ -1,4 +1,4 @@
-use Rattle.std.proofs.Common.{◌≡◌, sym, ◌∙◌}
+use Rattle.std.proofs.Common.{sym, ◌∙◌}
 use Rattle.adducts.proofs.IonCounts.{formula-AreCounts}
 use Rattle.candidates.proofs.search.passes.Goals as goal
 

@@ -1,9 +1,9 @@
-use Rattle.std.proofs.Common.{◌≡◌, ◌∷◌, true, Some, sym, ap, subst, ◌∙◌}
-use Rattle.candidates.specs.Enumeration.{CandidateEnumeration, counts_left}
+use Rattle.std.proofs.Common.{◌∷◌, Some, sym, ap, subst, ◌∙◌}
+use Rattle.candidates.specs.Enumeration.{counts_left}
 use Rattle.candidates.specs.PeakFormulas.{formulas_of_peak}
 use Rattle.decompose.specs.Enumeration.{after_given}
 use Rattle.candidates.specs.Searches.{Finds}
-use Rattle.candidates.proofs.StandingSteps.{standing-kept, standing-next, given-next, none-next}
+use Rattle.candidates.proofs.StandingSteps.{standing-next, given-next}
 use Rattle.candidates.proofs.candidates.Candidates.advance.Goals as goal
 
 pub invariant_of-self-2 : goal.invariant_of-self-2

@@ -1,4 +1,4 @@
-use Rattle.std.proofs.Common.{◌≡◌, Some, sym, ap, subst, ◌∙◌}
+use Rattle.std.proofs.Common.{sym, ap, subst, ◌∙◌}
 use Rattle.formula_text.specs.Formulas.{formula_of}
 use Rattle.candidates.specs.PeakFormulas.{counts_of}
 use Rattle.candidates.specs.Searches.{Finds}

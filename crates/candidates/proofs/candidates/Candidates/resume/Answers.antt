@@ -1,7 +1,7 @@
-use Rattle.std.proofs.Common.{◌≡◌, length, map, Some, Err, sym, ap, subst, ◌∙◌}
-use Rattle.std.specs.Prelude.{All, Result, is_some}
+use Rattle.std.proofs.Common.{◌≡◌, map, Err, sym, ap, subst, ◌∙◌}
+use Rattle.std.specs.Prelude.{Result, is_some}
 use Rattle.std.proofs.lemmas.Result.{err_from_is_err_and}
-use Rattle.decompose.specs.CountLists.{IsLimit, IsInBox}
+use Rattle.decompose.specs.CountLists.{IsInBox}
 use Rattle.decompose.specs.declared.faults.ResumeFault.{ResumeFault}
 use Rattle.decompose.specs.declared.faults.ResumeFault.TheVariants.{NotInBox, Memory}
 use Rattle.candidates.specs.PeakFormulas.{limits_of, items_of, counts_in, counts_of}

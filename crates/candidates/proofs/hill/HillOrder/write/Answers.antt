@@ -1,8 +1,8 @@
-use Rattle.std.proofs.Common.{◌≡◌, ℕ, ◌≤◌, List, length, take, sym, ap, subst, ◌∙◌, arith}
+use Rattle.std.proofs.Common.{ℕ, length, sym, ap, subst, ◌∙◌, arith}
 use Rattle.std.specs.Prelude.{All}
 use Rattle.written_items.specs.declared.item.Item.{Item}
 use Rattle.formula_text.specs.Formulas.{IsItem, IsParts}
-use Rattle.candidates.specs.HillOrders.{with_counts, numbered, others_of}
+use Rattle.candidates.specs.HillOrders.{with_counts}
 use Rattle.candidates.proofs.HillCounts.{IsPlace, carbon-formula, other-formula, carbon-places, other-places, order-items, carbon-few, other-few}
 use Rattle.candidates.proofs.hill.HillOrder.write.Goals as goal
 

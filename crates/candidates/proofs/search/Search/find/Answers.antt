@@ -1,7 +1,7 @@
-use Rattle.std.proofs.Common.{◌≡◌, refl, sym, ap, ◌∙◌, length}
+use Rattle.std.proofs.Common.{refl, sym, ap, ◌∙◌}
 use Rattle.std.specs.Vec.{with_items}
 use Rattle.candidates.specs.Searches.{is_formed}
-use Rattle.candidates.proofs.SearchSteps.{so_far-taken, so_far-passed, finds-none, finds-some, todo-less}
+use Rattle.candidates.proofs.SearchSteps.{so_far-taken, so_far-passed, finds-some}
 use Rattle.candidates.proofs.search.Search.find.Goals as goal
 
 pub returns-then-is_formed : goal.returns-then-is_formed

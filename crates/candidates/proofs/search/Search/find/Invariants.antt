@@ -1,5 +1,5 @@
-use Rattle.std.proofs.Common.{ℕ, length}
-use Rattle.candidates.specs.Searches.{Admits, todo}
+use Rattle.std.proofs.Common.{length}
+use Rattle.candidates.specs.Searches.{todo}
 use Rattle.candidates.proofs.SearchSteps.{SoFar}
 use Rattle.candidates.proofs.search.Search.find.Given as goal
 
