@@ -3,11 +3,11 @@
 use Rattle.std.specs.Prelude.{ℕ, List, length, map, Result, Ok, Err, if◌then◌else◌}
 use Rattle.std.specs.List.{concat}
 use Rattle.multinomial_bounds.specs.Isotopologue.{Element}
-use Rattle.isotopologue_sets.specs.Layers.{is_wide}
+use Rattle.isotopologue_sets.specs.Layers.{has_too_many, last_threshold_for}
 use Rattle.isotopologue_sets.specs.Covers.{Member, cover_numbers}
 use Rattle.reaching_layer.specs.CountsByElement.{counts_by_element}
 use Rattle.reaching_layer.specs.declared.fault.CoverFault.{CoverFault}
-use Rattle.reaching_layer.specs.declared.fault.CoverFault.TheVariants.{Wide}
+use Rattle.reaching_layer.specs.declared.fault.CoverFault.TheVariants.{TooMany}
 use Rattle.element_table.specs.Elements.{TableEntries}
 use Rattle.written_items.specs.declared.item.Item.{Item}
 use Rattle.isotopologue_text.specs.Isotopologues.{formula_elements, isotopologue_text_of, isotopologue_mass_of}
@@ -56,10 +56,13 @@ cover_of table formula coverage =
       layer = map (member_entry table formula) numbers.members;
     }
 
--- the cover, unless the formula has more isotopologues than are listed
-abbrev pub cover_unless_wide : TableEntries → List (Item × ℕ) → ℕ → Result CoverEntries CoverFault
-cover_unless_wide table formula coverage =
-    if is_wide (formula_elements table formula) then Err Wide else Ok (cover_of table formula coverage)
+-- the cover, unless a layer has too many members and none before it has the coverage
+abbrev pub cover_unless_too_many : TableEntries → List (Item × ℕ) → ℕ → Result CoverEntries CoverFault
+cover_unless_too_many table formula coverage =
+    let elements = formula_elements table formula in
+    if has_too_many elements (last_threshold_for elements coverage)
+    then Err (TooMany (last_threshold_for elements coverage))
+    else Ok (cover_of table formula coverage)
 
 -- a printed member as an isotopologue of the elements, with its bounds
 unfoldable pub member_numbers : List Element → MemberEntry → Member

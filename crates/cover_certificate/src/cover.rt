@@ -94,12 +94,12 @@ ghost use Rattle.isotopologue_sets.specs.Covers.{IsCover};
 ghost use Rattle.reaching_layer.specs.LayerAnswers.{is_memory};
 ghost use Rattle.formula_text.specs.Masses.{HasItems};
 ghost use Rattle.isotopologue_text.specs.Isotopologues.{formula_elements, IsIsotopologueOf};
-ghost use Rattle.cover_certificate.specs.FormulaCovers.{cover_unless_wide, member_numbers};
+ghost use Rattle.cover_certificate.specs.FormulaCovers.{cover_unless_too_many, member_numbers};
 
 /// The cover of a formula for a wanted coverage in units of 10^-18, from 1 to 999,999 * 10^12.
 ///
-/// `Wide` comes exactly where the formula has more than 1,048,576 isotopologues of isotopes that occur, which is
-/// found by counting them; `Memory` for want of memory. Time and memory are in proportion to their number.
+/// `TooMany` comes exactly where a layer has more than 1,048,576 members and none before it has the coverage; its
+/// threshold is that of this layer. `Memory` comes for want of memory.
 pub fn cover_of(
     alloc: Global,
     table: &Table,
@@ -109,7 +109,7 @@ pub fn cover_of(
     requires known { HasItems table.now formula.now }
     requires some { 1 ≤ coverage }
     requires below_one { coverage ≤ 999999 * 10 ^ 12 }
-    ensures cover { Gives is_memory result (cover_unless_wide table.now formula.now coverage) }
+    ensures cover { Gives is_memory result (cover_unless_too_many table.now formula.now coverage) }
 
     // What follows of the returned cover, by the exact weights of its members.
     ensures isotopologues { IfOk result (λ c. All (λ m. IsIsotopologueOf table.now formula.now m.counts) c.layer) }

@@ -8,7 +8,7 @@
 //! and a [`CoverMember`] as its counts, its text, its mass and its two bounds. The crate stands on `reaching_layer`
 //! and `isotopologue_sets` for the cover's numbers, on `isotopologue_text` for what is printed, on
 //! `multinomial_bounds`, `formula_text`, `element_table` and `reader_answers`. The program asks [`cover_of`] for the
-//! cover of a formula, which refuses one that has too many isotopologues.
+//! cover of a formula, which refuses one whose layers have too many members before they have the coverage.
 #![tactic(auto)]
 
 mod cover;

@@ -53,6 +53,14 @@ C,14,14.0032419884,0,4
 O,16,15.99491461957,0.99757,2
 O,17,16.9991317565,0.00038,2
 O,18,17.99915961286,0.00205,2
+H,1,1.00782503223,0.999885,1
+H,2,2.01410177812,0.000115,1
+N,14,14.00307400443,0.99636,3
+N,15,15.00010889888,0.00364,3
+S,32,31.9720711744,0.9499,6
+S,33,32.9714589098,0.0075,6
+S,34,33.967867004,0.0425,6
+S,36,35.96708071,0.0001,6
 P,31,30.97376199842,1,5
 Na,23,22.989769282,1,1
 ";
@@ -476,16 +484,47 @@ fn elements_of_10_000_atoms_have_covers(rt: HostRuntime) -> Result<(), Fail> {
     Ok(())
 }
 
-// The counts of 100 atoms of sixteen isotopes are far more than are listed.
+// Insulin and six more atoms of its elements have more than 10^12 isotopologues. IsoSpec's cover has 419 members, too.
 #[test]
-fn wide_formulas_are_refused_before_anything_is_listed(rt: HostRuntime) -> Result<(), Fail> {
+fn covers_of_large_formulas_are_found(rt: HostRuntime) -> Result<(), Fail> {
+    let found = cover_of_text(
+        &rt,
+        rt.alloc(),
+        ELEMENTS,
+        b"C257H383N65O77S6",
+        990_000_000_000_000_000,
+    )?;
+    assert_eq!(rt; found.threshold(), 27_216_323_985_307);
+    assert_eq!(rt; (found.size(), found.bound()), (419, 419));
+    assert_eq!(rt; found.layer().len(), 494);
+    let first = &found.layer()[0];
+    assert_eq!(rt;
+        first.text(),
+        b"[12C]255[13C]2[1H]383[14N]65[16O]77[32S]6".as_slice()
+    );
+    assert_eq!(rt; first.enclosure().lo, 111_478_063_043_821_334);
+    assert_eq!(rt; first.enclosure().hi, 111_478_063_043_821_477);
+    let last = &found.layer()[418];
+    assert_eq!(rt;
+        last.text(),
+        b"[12C]255[13C]2[1H]382[2H][14N]65[16O]76[17O][32S]5[34S]".as_slice()
+    );
+    assert_eq!(rt; last.enclosure().lo, 38_665_996_710_305);
+    Ok(())
+}
+
+// The first layer of 100 atoms of sixteen equal isotopes has 11,240,208 members.
+#[test]
+fn layers_of_too_many_members_are_refused_with_their_threshold(
+    rt: HostRuntime,
+) -> Result<(), Fail> {
     let alloc = rt.alloc();
     let table = read_table(alloc, EVEN)?;
     let formula = read_formula(alloc, &table, b"Z100")?;
     assert!(rt; has_items(&table, &formula));
-    match cover_of(alloc, &table, &formula, HALF) {
-        Ok(_) => rt.abort(),
-        Err(fault) => assert_eq!(rt; fault, CoverFault::Wide),
-    }
+    let Err(CoverFault::TooMany { threshold }) = cover_of(alloc, &table, &formula, HALF) else {
+        rt.abort()
+    };
+    assert_eq!(rt; threshold, 1_442_992);
     Ok(())
 }

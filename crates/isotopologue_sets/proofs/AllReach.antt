@@ -1,16 +1,16 @@
--- All isotopologues together reach each coverage up to 0.999999 by their lower bounds, where they are not too many;
--- so the reaching layer reaches it.
-use Rattle.std.proofs.Common.{◌≡◌, ℕ, ◌*◌, ◌≤◌, Bool, true, false, cond, ltb, Some, List, [], ◌∷◌, length, refl, ap, arith, All}
-use Rattle.std.specs.Prelude.{sum_by, filter, find, unwrap_or}
+-- All isotopologues together reach each coverage up to 0.999999 by their lower bounds, where they are not too many; so
+-- the search for a cover always ends, and where it ends without too many members, the reaching layer reaches it.
+use Rattle.std.proofs.Common.{◌≡◌, ℕ, ◌*◌, ◌≤◌, Bool, true, false, cond, ltb, Option, Some, List, [], ◌∷◌, length, refl, sym, ◌∙◌, ap, arith, All, ⊎_elim}
+use Rattle.std.specs.Prelude.{◌||◌, sum_by, filter, find, unwrap_or}
 use Rattle.std.proofs.Math.Nat.{le_of_mul-le-mul_right, mul-le-mul}
-use Rattle.std.proofs.lemmas.Bool.{ltb-false, lt-ltb, leb-true, le-leb}
+use Rattle.std.proofs.lemmas.Bool.{cases_Bool, false≢true, ltb-false, lt-ltb, leb-true, le-leb}
 use Rattle.std.proofs.lemmas.List.Elements.{All-head, All-tail, All-weaker}
 use Rattle.multinomial_bounds.specs.Bounds.{certainty}
 use Rattle.multinomial_bounds.specs.Isotopologue.{Element, IsIsotopologue, all_weight}
-use Rattle.multinomial_bounds.specs.Compositions.{isotopologues_of, isotopologue_count}
+use Rattle.multinomial_bounds.specs.Compositions.{isotopologues_of}
 use Rattle.multinomial_bounds.proofs.IsotopologueList.{isotopologues_of-IsIsotopologue}
 use Rattle.multinomial_bounds.proofs.SumOfWeights.{weights-sum}
-use Rattle.isotopologue_sets.specs.Layers.{AreElements, hi_of, lo_total, layer, layer_reaches, thresholds, reaching_threshold, max_isotopologues, is_wide}
+use Rattle.isotopologue_sets.specs.Layers.{AreElements, hi_of, lo_total, layer, layer_reaches, thresholds, reaching_threshold, max_members, has_too_many, ends_search, last_threshold_for}
 use Rattle.isotopologue_sets.specs.Coverage.{max_coverage}
 use Rattle.isotopologue_sets.proofs.SetBounds.{all_weight-positive, width_of, hi_of-positive, weight-le-hi_total, hi_total-le}
 
@@ -26,6 +26,32 @@ found_passes p [] d passes = passes
 found_passes {X} p (x ∷ xs) d passes =
     let Goal : Bool → Type 0 = λ b. p x ≡ b → p (unwrap_or (cond b (Some x) (find p xs)) d) ≡ true in
     (elim (p x) as Goal [ true ↦ λ e. e | false ↦ λ e. found_passes p xs d passes ]) refl
+
+or-true : (b : Bool) → (b || true) ≡ true
+or-true true = refl
+or-true false = refl
+
+only_left : (a b : Bool) → b ≡ false → (a || b) ≡ true → a ≡ true
+only_left true b none some = refl
+only_left false b none some = absurd (false≢true (sym none ∙ some))
+
+-- what is found by either test, and doesn't pass the second, is found by the first
+found_same : {X : Type 0} (p q : X → Bool) (xs : List X) (d : X) →
+    q (unwrap_or (find (λ x. p x || q x) xs) d) ≡ false →
+    unwrap_or (find p xs) d ≡ unwrap_or (find (λ x. p x || q x) xs) d
+found_same p q [] d fails = refl
+found_same {X} p q (x ∷ xs) d fails =
+    let rest : Option X = find (λ y. p y || q y) xs in
+    let Goal : Bool → Bool → Type 0 = λ a b.
+    q x ≡ b → q (unwrap_or (cond (a || b) (Some x) rest) d) ≡ false →
+    unwrap_or (cond a (Some x) (find p xs)) d ≡ unwrap_or (cond (a || b) (Some x) rest) d in
+    (elim (p x) as (λ a. Goal a (q x)) [
+      | true ↦ λ e f. refl
+      | false ↦ elim (q x) as (Goal false) [
+          | true ↦ λ e f. absurd (false≢true (sym f ∙ e))
+          | false ↦ λ e f. found_same p q xs d f
+        ]
+    ]) refl fails
 
 module _ (es : List Element) (ok : AreElements es) where
   width_of-le : width_of es ≤ 40020
@@ -47,34 +73,54 @@ module _ (es : List Element) (ok : AreElements es) where
       (λ i is. lt-ltb 0 (hi_of es i) (hi_of-positive es ok i is)) (isotopologues_of es)
       (isotopologues_of-IsIsotopologue es))
 
-  pub length-isotopologues_of : is_wide es ≡ false → length (isotopologues_of es) ≤ max_isotopologues
-  unfolding isotopologue_count
-  length-isotopologues_of narrow = ltb-false max_isotopologues (isotopologue_count es) narrow
+  length-isotopologues_of : has_too_many es 0 ≡ false → length (isotopologues_of es) ≤ max_members
+  length-isotopologues_of few =
+      rw layer-zero at (ltb-false max_members (length (layer es 0)) few)
 
   -- No coverage up to 0.999999 is out of reach.
-  pub all-reach : is_wide es ≡ false → (coverage : ℕ) → coverage ≤ max_coverage →
+  all-reach : has_too_many es 0 ≡ false → (coverage : ℕ) → coverage ≤ max_coverage →
       coverage ≤ lo_total es (isotopologues_of es)
-  all-reach narrow coverage most =
+  all-reach few coverage most =
       omega (
         arith,
         hi_total-all,
         hi_total-le es ok (isotopologues_of es) (isotopologues_of-IsIsotopologue es),
-        mul-le-mul (length-isotopologues_of narrow) width_of-le,
+        mul-le-mul (length-isotopologues_of few) width_of-le,
       )
 
-  pub layer_zero-reaches : is_wide es ≡ false → (coverage : ℕ) → coverage ≤ max_coverage →
+  pub layer_zero-reaches : has_too_many es 0 ≡ false → (coverage : ℕ) → coverage ≤ max_coverage →
       coverage ≤ lo_total es (layer es 0)
-  layer_zero-reaches narrow coverage most = rw layer-zero (all-reach narrow coverage most)
+  layer_zero-reaches few coverage most = rw layer-zero (all-reach few coverage most)
 
-  pub layer_reaches-zero : is_wide es ≡ false → (coverage : ℕ) → coverage ≤ max_coverage →
-      layer_reaches es coverage 0 ≡ true
-  layer_reaches-zero narrow coverage most =
-      le-leb coverage (lo_total es (layer es 0)) (layer_zero-reaches narrow coverage most)
+  -- The search ends at threshold 0 at the latest.
+  pub ends_search-zero : (coverage : ℕ) → coverage ≤ max_coverage → ends_search es coverage 0 ≡ true
+  ends_search-zero coverage most =
+      ⊎_elim
+      (λ (many : has_too_many es 0 ≡ true).
+      rw many (or-true (layer_reaches es coverage 0)))
+      (λ (few : has_too_many es 0 ≡ false).
+      ap (λ b. b || has_too_many es 0)
+      (le-leb coverage (lo_total es (layer es 0)) (layer_zero-reaches few coverage most)))
+      (cases_Bool (has_too_many es 0))
 
-  -- The layer of the reaching threshold has the coverage by its lower bounds.
-  pub reaching_threshold-reaches : is_wide es ≡ false → (coverage : ℕ) → coverage ≤ max_coverage →
-      coverage ≤ lo_total es (layer es (reaching_threshold es coverage))
-  unfolding reaching_threshold
-  reaching_threshold-reaches narrow coverage most =
-      leb-true coverage (lo_total es (layer es (reaching_threshold es coverage)))
-      (found_passes (layer_reaches es coverage) (thresholds es) 0 (layer_reaches-zero narrow coverage most))
+  module _ (coverage : ℕ) (most : coverage ≤ max_coverage) where
+    pub last_threshold_for-ends : ends_search es coverage (last_threshold_for es coverage) ≡ true
+    unfolding last_threshold_for
+    last_threshold_for-ends = found_passes (ends_search es coverage) (thresholds es) 0 (ends_search-zero coverage most)
+
+    -- Where the search ends with a layer that has not too many members, this is the reaching layer.
+    module _ (few : has_too_many es (last_threshold_for es coverage) ≡ false) where
+      pub reaching_threshold-last : reaching_threshold es coverage ≡ last_threshold_for es coverage
+      unfolding reaching_threshold last_threshold_for
+      reaching_threshold-last = found_same (layer_reaches es coverage) (has_too_many es) (thresholds es) 0 few
+
+      pub reaching_threshold-reaches : coverage ≤ lo_total es (layer es (reaching_threshold es coverage))
+      reaching_threshold-reaches =
+          rw reaching_threshold-last
+          (leb-true coverage (lo_total es (layer es (last_threshold_for es coverage)))
+          (only_left (layer_reaches es coverage (last_threshold_for es coverage))
+          (has_too_many es (last_threshold_for es coverage)) few last_threshold_for-ends))
+
+      pub both-reaching : (reaching_threshold es coverage ≡ last_threshold_for es coverage)
+          × (coverage ≤ lo_total es (layer es (reaching_threshold es coverage)))
+      both-reaching = (reaching_threshold-last, reaching_threshold-reaches)

@@ -12,7 +12,7 @@ use Rattle.std.proofs.lemmas.List.Sorted.{All-permutation, Contains-permutation,
 use Rattle.sorted_lists.proofs.SortedListLaws.{IsPermutation-sorted_by, AllPairs-sorted_by}
 use Rattle.sorted_lists.specs.SortedLists.{sorted_by}
 use Rattle.multinomial_bounds.specs.Isotopologue.{Element, IsIsotopologue, all_weight}
-use Rattle.isotopologue_sets.specs.Layers.{AreElements, lo_of, hi_of, lo_total, layer, reaching_threshold, is_wide}
+use Rattle.isotopologue_sets.specs.Layers.{AreElements, lo_of, hi_of, lo_total, layer, reaching_threshold, has_too_many, last_threshold_for}
 use Rattle.isotopologue_sets.specs.Coverage.{max_coverage, IsSet, Reaches, Bound, ReachesButFor}
 use Rattle.isotopologue_sets.specs.Covers.{ordered_layer, size_for, bound_for, cover_numbers, IsCover}
 use Rattle.isotopologue_sets.proofs.GreatestSums.{Falls, sum_by-le-first}
@@ -243,14 +243,14 @@ module _ (es : List Element) (ok : AreElements es) (coverage threshold : ℕ)
       }
 
 -- What a cover claims of the isotopologues of its elements.
-pub cover-claims : (es : List Element) → AreElements es → is_wide es ≡ false → (coverage : ℕ) →
-    1 ≤ coverage → coverage ≤ max_coverage →
+pub cover-claims : (es : List Element) → AreElements es → (coverage : ℕ) → 1 ≤ coverage → coverage ≤ max_coverage →
+    has_too_many es (last_threshold_for es coverage) ≡ false →
     let cover = cover_numbers es coverage in
     IsCover es coverage cover.size cover.bound cover.members
 unfolding cover_numbers size bound
-cover-claims es ok narrow coverage some most =
+cover-claims es ok coverage some most few =
     let t : ℕ = reaching_threshold es coverage in
-    let reaches : coverage ≤ lo_total es (layer es t) = reaching_threshold-reaches es ok narrow coverage most in
+    let reaches : coverage ≤ lo_total es (layer es t) = reaching_threshold-reaches es ok coverage most few in
     let members : List (List (List ℕ)) = ordered_layer es t in
     record {
       bounds_are = bounds_are es members;

@@ -45,7 +45,7 @@ cover_cmp_total : (es : List Element) → IsTotalOrder (cover_cmp es)
 unfolding cover_cmp
 cover_cmp_total es = then_total (back_total (on_total (lo_of es) nat_cmp_total)) (lists_total nat_list_cmp_total)
 
-less_is : (x y : ℕ) (o : Ordering) → (ltb x y || (eqb y x && is_lt o)) ≡ is_lt (ordering_then (nat_cmp x y) o)
+pub less_is : (x y : ℕ) (o : Ordering) → (ltb x y || (eqb y x && is_lt o)) ≡ is_lt (ordering_then (nat_cmp x y) o)
 less_is x y o =
     ⊎_elim
     (λ (same : x ≡ y). rw (le-ltb x y (omega arith), eq-eqb x y same, eq-eqb y x (sym same)) refl)

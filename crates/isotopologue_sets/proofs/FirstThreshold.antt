@@ -1,11 +1,10 @@
--- The reaching threshold is the mode's upper bound halved so many times, and no greater one of these has a layer with
--- the coverage.
+-- The search for a cover ends at the mode's upper bound halved so many times, and at no greater one of these.
 use Rattle.std.proofs.Common.{◌≡◌, ℕ, zero, suc, ◌+◌, ◌*◌, ◌/◌, ◌^◌, ◌<◌, ◌≤◌, Bool, true, false, cond, Some, List, [], ◌∷◌, map, sym, ◌∙◌, ap, arith, All, ⊎_elim, lit<}
 use Rattle.std.specs.List.{find, range_with_len}
 use Rattle.std.specs.Option.{unwrap_or}
 use Rattle.std.proofs.Math.Nat.{div-eq_of_lt, div-mul-le_self, pow-le-pow_right, mul-le-mul_left, one-le-pow}
 use Rattle.std.proofs.lemmas.Nat.{le-div}
-use Rattle.std.proofs.lemmas.Bool.{cases_Bool, cases_lt, leb-false}
+use Rattle.std.proofs.lemmas.Bool.{cases_Bool, cases_lt}
 use Rattle.std.proofs.lemmas.List.Elements.{All-head, All-tail}
 use Rattle.multinomial_bounds.specs.Bounds.{certainty}
 use Rattle.multinomial_bounds.specs.Weight.{IsWeights, IsCounts}
@@ -14,8 +13,8 @@ use Rattle.multinomial_bounds.specs.Isotopologue.{Element, IsIsotopologue}
 use Rattle.multinomial_bounds.proofs.EnclosureLemmas.{IsEnclosure-isotopologue}
 use Rattle.multinomial_bounds.proofs.ModeLemmas.{length-mode_of_atoms, sum-mode_of_atoms}
 use Rattle.isotopologue_sets.specs.Coverage.{max_coverage}
-use Rattle.isotopologue_sets.specs.Layers.{AreElements, lo_total, layer, layer_reaches, mode_of_each, mode_hi, threshold_at, reaching_threshold, is_wide}
-use Rattle.isotopologue_sets.proofs.AllReach.{layer_reaches-zero}
+use Rattle.isotopologue_sets.specs.Layers.{AreElements, mode_of_each, mode_hi, threshold_at, ends_search, last_threshold_for}
+use Rattle.isotopologue_sets.proofs.AllReach.{ends_search-zero}
 
 -- what is found among numbers of which one passes: the first that does
 record Found (p : ℕ → Bool) (f : ℕ → ℕ) (from : ℕ) (found : ℕ) : Type 0 where
@@ -86,7 +85,7 @@ mode_of_each-IsIsotopologue (e ∷ es) ok =
     } in
     (counts, mode_of_each-IsIsotopologue es (All-tail (λ e. IsWeights e.weights) e es ok))
 
-threshold_at-falls : (es : List Element) (i j : ℕ) → i ≤ j → threshold_at es j ≤ threshold_at es i
+pub threshold_at-falls : (es : List Element) (i j : ℕ) → i ≤ j → threshold_at es j ≤ threshold_at es i
 threshold_at-falls es i j after =
     let hi : ℕ = mode_hi es in
     let powers : 2 ^ (i + 1) ≤ 2 ^ (j + 1) = pow-le-pow_right {n = 2} (omega arith) (omega arith) in
@@ -99,32 +98,31 @@ module _ (es : List Element) (ok : AreElements es) where
   mode_hi-le =
       (IsEnclosure-isotopologue es (mode_of_each es) ok.weights (mode_of_each-IsIsotopologue es ok.weights)).at_most_one
 
-  threshold_at-last : threshold_at es 59 ≡ 0
+  pub threshold_at-last : threshold_at es 59 ≡ 0
   threshold_at-last = div-eq_of_lt (omega (arith, mode_hi-le))
 
-  module _ (narrow : is_wide es ≡ false) (coverage : ℕ) (most : coverage ≤ max_coverage) where
-    found : Found (layer_reaches es coverage) (threshold_at es) 0 (reaching_threshold es coverage)
-    unfolding reaching_threshold
+  module _ (coverage : ℕ) (most : coverage ≤ max_coverage) where
+    found : Found (ends_search es coverage) (threshold_at es) 0 (last_threshold_for es coverage)
+    unfolding last_threshold_for
     found =
-        found_first (layer_reaches es coverage) (threshold_at es) 0 60 59 (lit< tt)
-        (ap (layer_reaches es coverage) threshold_at-last ∙ layer_reaches-zero es ok narrow coverage most)
+        found_first (ends_search es coverage) (threshold_at es) 0 60 59 (lit< tt)
+        (ap (ends_search es coverage) threshold_at-last ∙ ends_search-zero es ok coverage most)
 
-    -- It is the mode's upper bound halved so many times.
-    pub reaching_threshold-halved : (step : ℕ) × (reaching_threshold es coverage ≡ threshold_at es step)
-    reaching_threshold-halved =
+    -- The search ends at the mode's upper bound halved so many times.
+    pub last_threshold_for-halved : (step : ℕ) × (last_threshold_for es coverage ≡ threshold_at es step)
+    last_threshold_for-halved =
         let same : 0 + found.step ≡ found.step = omega arith in
         (found.step, found.there ∙ ap (threshold_at es) same)
 
-    -- No greater one of these has a layer with the coverage.
-    pub reaching_threshold-first : (step : ℕ) → reaching_threshold es coverage < threshold_at es step →
-        lo_total es (layer es (threshold_at es step)) < coverage
-    reaching_threshold-first step above =
+    -- It ends at no greater one of these.
+    pub last_threshold_for-first : (step : ℕ) → last_threshold_for es coverage < threshold_at es step →
+        ends_search es coverage (threshold_at es step) ≡ false
+    last_threshold_for-first step above =
         let same : 0 + found.step ≡ found.step = omega arith in
         let none : 0 + step ≡ step = omega arith in
-        let is : reaching_threshold es coverage ≡ threshold_at es found.step = found.there ∙ ap (threshold_at es) same in
+        let is : last_threshold_for es coverage ≡ threshold_at es found.step = found.there ∙ ap (threshold_at es) same in
         ⊎_elim
-        (λ (before : step < found.step).
-        leb-false coverage (lo_total es (layer es (threshold_at es step))) (rw none at (found.before step before)))
+        (λ (before : step < found.step). rw none at (found.before step before))
         (λ (after : found.step ≤ step).
         absurd (omega (arith, threshold_at-falls es found.step step after, is)))
         (cases_lt step found.step)

@@ -1,12 +1,12 @@
 -- The isotopologues of a list of elements by their bounds, and layers of them. Bounds, thresholds and coverages are
 -- in units of 10^-18.
-use Rattle.std.specs.Prelude.{ℕ, ◌+◌, ◌/◌, ◌^◌, ◌≤◌, Bool, nat_lt, nat_le, List, length, map, filter, find, sum_by, unwrap_or, All}
+use Rattle.std.specs.Prelude.{ℕ, ◌+◌, ◌/◌, ◌^◌, ◌≤◌, Bool, ◌||◌, nat_lt, nat_le, List, length, map, filter, find, sum_by, unwrap_or, All}
 use Rattle.std.specs.List.{range_with_len}
 use Rattle.multinomial_bounds.specs.Weight.{IsWeights}
 use Rattle.multinomial_bounds.specs.Bounds.{floor_of, ceiling_of}
 use Rattle.multinomial_bounds.specs.Mode.{mode_of_atoms}
 use Rattle.multinomial_bounds.specs.Isotopologue.{Element, all_atoms, isotopologue_bound}
-use Rattle.multinomial_bounds.specs.Compositions.{isotopologues_of, isotopologue_count}
+use Rattle.multinomial_bounds.specs.Compositions.{isotopologues_of}
 
 -- the most elements of a formula, and the most atoms of one of them and of all together
 abbrev pub max_elements_of_formula : ℕ
@@ -63,10 +63,19 @@ layer_reaches elements coverage threshold = nat_le coverage (lo_total elements (
 unfoldable pub reaching_threshold : List Element → ℕ → ℕ
 reaching_threshold elements coverage = unwrap_or (find (layer_reaches elements coverage) (thresholds elements)) 0
 
--- the most isotopologues that are listed
-abbrev pub max_isotopologues : ℕ
-max_isotopologues = 1048576
+-- the most members of a layer
+abbrev pub max_members : ℕ
+max_members = 1048576
 
--- whether there are more isotopologues than are listed
-abbrev pub is_wide : List Element → Bool
-is_wide elements = nat_lt max_isotopologues (isotopologue_count elements)
+-- whether the layer of a threshold has more members than that
+abbrev pub has_too_many : List Element → ℕ → Bool
+has_too_many elements threshold = nat_lt max_members (length (layer elements threshold))
+
+-- whether the search for a cover ends at a threshold: its layer has the coverage, or too many members
+abbrev pub ends_search : List Element → ℕ → ℕ → Bool
+ends_search elements coverage threshold =
+    layer_reaches elements coverage threshold || has_too_many elements threshold
+
+-- the threshold at which the search for a cover ends: the first at which it does, and 0 where there is none
+unfoldable pub last_threshold_for : List Element → ℕ → ℕ
+last_threshold_for elements coverage = unwrap_or (find (ends_search elements coverage) (thresholds elements)) 0

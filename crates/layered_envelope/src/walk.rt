@@ -71,7 +71,7 @@ pub(crate) fn times_upper(x: u64, y: u64) -> u64
     ensures value { result ≡ upper x y }
     ensures at_most_one { result ≤ certainty }
 {
-    (u128::from(x) * u128::from(y)).div_ceil(u128::from(CERTAINTY)) as u64
+    multinomial_bounds::times_upper(x, y)
 }
 
 /// Whether the upper bound of the product of two probabilities is above a threshold, without a division.

@@ -28,6 +28,7 @@ mod mode;
 mod moves;
 mod path;
 mod product;
+mod quotient;
 mod spread;
 
 pub use enclosure::{CERTAINTY, Enclosure};
@@ -36,6 +37,7 @@ pub use mode::{MAX_ATOMS, is_mode, mode_of};
 pub use moves::move_down;
 pub use path::enclose;
 pub use product::times;
+pub use quotient::times_upper;
 pub use spread::Spread;
 
 #[cfg(test)]

@@ -1,9 +1,7 @@
-pub mod ListMaps
-pub mod ListedLayers
-pub mod LayerOfPlaces
 pub mod MemberRowLaws
-pub mod ChosenMembers
+pub mod RowOrder
+pub mod GatheredMembers
+pub mod OrderedRows
+pub mod SearchSteps
 pub mod FewestBounds
-pub mod Modes
-pub mod FirstReaching
 pub mod CoverNumbers

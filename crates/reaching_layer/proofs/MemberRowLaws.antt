@@ -1,22 +1,23 @@
--- Members whose counts stand end to end, by element and by member.
+-- The counts of a member, one element after another, and members by their rows.
 use Rattle.std.proofs.Common.{◌≡◌, ℕ, zero, suc, ◌+◌, ◌*◌, ◌<◌, ◌≤◌, List, [], ◌∷◌, ◌++◌, length, get_or, map, sum, take, drop, refl, sym, ◌∙◌, ap, arith, All, append_assoc, append-nil, length-append}
-use Rattle.std.specs.Prelude.{flat_map}
 use Rattle.std.specs.List.{concat}
-use Rattle.std.proofs.Math.Nat.{mul-le-mul_right}
 use Rattle.std.proofs.Math.Seq.{take-add, take-append_seam, drop-append_seam}
-use Rattle.std.proofs.lemmas.List.{length-map, get_or-map, drop-drop, take_more}
+use Rattle.std.proofs.lemmas.List.{length-map, length-take, get_or-map, take_more, take_all}
 use Rattle.std.proofs.lemmas.List.Folds.{concat-append}
 use Rattle.std.proofs.lemmas.List.Elements.{All-head, All-tail}
 use Rattle.multinomial_bounds.proofs.CompositionLemmas.{sum-cons}
+use Rattle.multinomial_bounds.specs.Isotopologue.{Element, IsIsotopologue}
+use Rattle.isotopologue_sets.specs.Layers.{AreElements}
 use Rattle.isotopologue_sets.specs.Covers.{Member}
 use Rattle.isotopologue_list.proofs.FlatLemmas.{map_map}
-use Rattle.multinomial_bounds.specs.Isotopologue.{Element, IsIsotopologue}
-use Rattle.multinomial_bounds.specs.declared.enclosure.Enclosure.{Enclosure}
+use Rattle.reaching_layer.specs.declared.members.Row.{Row}
 use Rattle.reaching_layer.specs.CountsByElement.{counts_by_element}
-use Rattle.reaching_layer.specs.MemberRows.{member_rows}
-use Rattle.reaching_layer.specs.ListedBounds.{bounds_of}
+use Rattle.reaching_layer.specs.MemberRows.{row_counts, row_member}
 
 -- ---- one member
+
+pub take_twice : {X : Type 0} (n : ℕ) (xs : List X) → take n (take n xs) ≡ take n xs
+take_twice n xs = take_all n (take n xs) (omega (arith, length-take n xs))
 
 pub concat-counts_by_element : (isotopes counts : List ℕ) → concat (counts_by_element isotopes counts) ≡ take (sum isotopes) counts
 unfolding counts_by_element
@@ -57,118 +58,43 @@ lengths-IsIsotopologue (e ∷ es) [] is = absurd is
 lengths-IsIsotopologue (e ∷ es) (counts ∷ more) is =
     ap (λ (n : ℕ). n ∷ map length more) is.0.places_agree ∙ ap (λ ns. length e.weights ∷ ns) (lengths-IsIsotopologue es more is.1)
 
--- ---- all members
+-- ---- members by their rows
 
-module _ {P : Type 0} (counts : P → List (List ℕ)) (lo hi : P → ℕ) (isotopes : List ℕ) where
-  abbrev member : P → Member
-  member p = record { counts = counts p; lo = lo p; hi = hi p }
+module _ (isotopes counts : List ℕ) where
+  pub row_member-counts : (row : Row) → concat (row_member isotopes counts row).counts ≡ row_counts counts (sum isotopes) row
+  unfolding row_member
+  row_member-counts row =
+      concat-counts_by_element isotopes (row_counts counts (sum isotopes) row)
+      ∙ take_twice (sum isotopes) (drop row.start counts)
 
-  pub member_rows-end_to_end : (ps : List P) → All (λ p. map length (counts p) ≡ isotopes) ps →
-      member_rows isotopes (flat_map (λ p. concat (counts p)) ps) (map {B = ℕ × ℕ} (λ p. (lo p, hi p)) ps) ≡ map member ps
-  unfolding member_rows
-  member_rows-end_to_end [] all = refl
-  member_rows-end_to_end (p ∷ ps) all =
-      let more : List ℕ = flat_map (λ q. concat (counts q)) ps in
-      let here : map length (counts p) ≡ isotopes = All-head (λ q. map length (counts q) ≡ isotopes) p ps all in
-      let first : counts_by_element isotopes (concat (counts p) ++ more) ≡ counts p =
-      ap (λ ns. counts_by_element ns (concat (counts p) ++ more)) (sym here) ∙ counts_by_element-concat (counts p) more in
-      let width : sum isotopes ≡ length (concat (counts p)) = sym (length-concat (counts p) ∙ ap sum here) in
-      let others : drop (sum isotopes) (concat (counts p) ++ more) ≡ more =
-      ap (λ (n : ℕ). drop n (concat (counts p) ++ more)) width ∙ drop-append_seam (concat (counts p)) more in
-      rw (first, others, member_rows-end_to_end ps (All-tail (λ q. map length (counts q) ≡ isotopes) p ps all)) refl
+  module _ (rows : List Row) (members : List Member) (view : map (row_member isotopes counts) rows ≡ members) where
+    pub length-members : length members ≡ length rows
+    length-members = ap length (sym view) ∙ length-map rows (row_member isotopes counts)
 
-  pub length-end_to_end : (ps : List P) → All (λ p. map length (counts p) ≡ isotopes) ps →
-      length (flat_map (λ p. concat (counts p)) ps) ≡ length ps * sum isotopes
-  length-end_to_end [] all = omega arith
-  length-end_to_end (p ∷ ps) all =
-      let here : map length (counts p) ≡ isotopes = All-head (λ q. map length (counts q) ≡ isotopes) p ps all in
-      let first : length (concat (counts p)) ≡ sum isotopes = length-concat (counts p) ∙ ap sum here in
-      let rest : length (flat_map (λ q. concat (counts q)) ps) ≡ length ps * sum isotopes =
-      length-end_to_end ps (All-tail (λ q. map length (counts q) ≡ isotopes) p ps all) in
-      length-append (concat (counts p)) (flat_map (λ q. concat (counts q)) ps) ∙ omega (arith, first, rest)
+    pub member_at : (k : ℕ) (d : Member) (r : Row) → k < length members →
+        get_or members k d ≡ row_member isotopes counts (get_or rows k r)
+    member_at k d r within =
+        ap (λ ms. get_or ms k d) (sym view)
+        ∙ get_or-map (row_member isotopes counts) rows k r d (omega (arith, length-members))
 
-module _ (isotopes : List ℕ) where
-  length-member_rows : (counts : List ℕ) (bounds : List (ℕ × ℕ)) → length (member_rows isotopes counts bounds) ≡ length bounds
-  unfolding member_rows
-  length-member_rows counts [] = refl
-  length-member_rows counts (b ∷ bounds) = ap suc (length-member_rows (drop (sum isotopes) counts) bounds)
+    pub members_lo : map (λ m. m.lo) members ≡ map (λ (r : Row). r.enclosure.lo) rows
+    unfolding row_member
+    members_lo =
+        ap (map (λ (m : Member). m.lo)) (sym view)
+        ∙ map_map (λ (m : Member). m.lo) (row_member isotopes counts) rows
 
-  get_or-member_rows : (counts : List ℕ) (bounds : List (ℕ × ℕ)) (k : ℕ) (d : Member) → k < length bounds →
-      get_or (member_rows isotopes counts bounds) k d
-      ≡ record {
-        counts = counts_by_element isotopes (drop (k * sum isotopes) counts);
-        lo = (get_or bounds k (0, 0)).0;
-        hi = (get_or bounds k (0, 0)).1;
-      }
-  unfolding member_rows
-  get_or-member_rows counts [] k d within = absurd (omega arith)
-  get_or-member_rows counts (b ∷ bounds) zero d within =
-      let none : 0 * sum isotopes ≡ 0 = omega arith in
-      rw none refl
-  get_or-member_rows counts (b ∷ bounds) (suc k) d within =
-      let more : suc k * sum isotopes ≡ sum isotopes + k * sum isotopes = omega arith in
-      rw (more, ← drop-drop (k * sum isotopes) (sum isotopes) counts)
-      (get_or-member_rows (drop (sum isotopes) counts) bounds k d (omega arith))
+    pub members_hi : map (λ m. m.hi) members ≡ map (λ (r : Row). r.enclosure.hi) rows
+    unfolding row_member
+    members_hi =
+        ap (map (λ (m : Member). m.hi)) (sym view)
+        ∙ map_map (λ (m : Member). m.hi) (row_member isotopes counts) rows
 
-  lo-member_rows : (counts : List ℕ) (bounds : List (ℕ × ℕ)) →
-      map (λ m. m.lo) (member_rows isotopes counts bounds) ≡ map (λ (b : ℕ × ℕ). b.0) bounds
-  unfolding member_rows
-  lo-member_rows counts [] = refl
-  lo-member_rows counts (b ∷ bounds) = ap (λ xs. b.0 ∷ xs) (lo-member_rows (drop (sum isotopes) counts) bounds)
-
-  hi-member_rows : (counts : List ℕ) (bounds : List (ℕ × ℕ)) →
-      map (λ m. m.hi) (member_rows isotopes counts bounds) ≡ map (λ (b : ℕ × ℕ). b.1) bounds
-  unfolding member_rows
-  hi-member_rows counts [] = refl
-  hi-member_rows counts (b ∷ bounds) = ap (λ xs. b.1 ∷ xs) (hi-member_rows (drop (sum isotopes) counts) bounds)
-
--- the same of enclosures
-module _ (isotopes counts : List ℕ) (enclosures : List Enclosure) (members : List Member)
-    (view : member_rows isotopes counts (bounds_of enclosures) ≡ members) where
-  pub length-members : length members ≡ length enclosures
-  length-members =
-      ap length (sym view) ∙ length-member_rows isotopes counts (bounds_of enclosures)
-      ∙ length-map {B = ℕ × ℕ} enclosures (λ e. (e.lo, e.hi))
-
-  inside : (k : ℕ) → k < length members → k < length (bounds_of enclosures)
-  inside k within = omega (arith, length-members, length-map {B = ℕ × ℕ} enclosures (λ e. (e.lo, e.hi)))
-
-  pub member_counts : (k : ℕ) (d : Member) → k < length members →
-      concat (get_or members k d).counts ≡ take (sum isotopes) (drop (k * sum isotopes) counts)
-  member_counts k d within =
-      ap (λ ms. concat (get_or ms k d).counts) (sym view)
-      ∙ ap (λ (m : Member). concat m.counts) (get_or-member_rows isotopes counts (bounds_of enclosures) k d (inside k within))
-      ∙ concat-counts_by_element isotopes (drop (k * sum isotopes) counts)
-
-  member_bounds : (k : ℕ) (d : Member) (e : Enclosure) → k < length members →
-      ((get_or members k d).lo ≡ (get_or enclosures k e).lo) × ((get_or members k d).hi ≡ (get_or enclosures k e).hi)
-  member_bounds k d e within =
-      let row = get_or-member_rows isotopes counts (bounds_of enclosures) k d (inside k within) in
-      let near : k < length enclosures = omega (arith, length-members) in
-      let item : get_or (bounds_of enclosures) k (0, 0) ≡ ((get_or enclosures k e).lo, (get_or enclosures k e).hi) =
-      get_or-map {Y = ℕ × ℕ} (λ x. (x.lo, x.hi)) enclosures k e (0, 0) near in (
-        ap (λ ms. (get_or ms k d).lo) (sym view) ∙ ap (λ (m : Member). m.lo) row ∙ ap (λ (b : ℕ × ℕ). b.0) item,
-        ap (λ ms. (get_or ms k d).hi) (sym view) ∙ ap (λ (m : Member). m.hi) row ∙ ap (λ (b : ℕ × ℕ). b.1) item,
-      )
-
-  pub member_lo : (k : ℕ) (d : Member) (e : Enclosure) → k < length members → (get_or members k d).lo ≡ (get_or enclosures k e).lo
-  member_lo k d e within = (member_bounds k d e within).0
-
-  pub member_hi : (k : ℕ) (d : Member) (e : Enclosure) → k < length members → (get_or members k d).hi ≡ (get_or enclosures k e).hi
-  member_hi k d e within = (member_bounds k d e within).1
-
-  pub members_lo : map (λ m. m.lo) members ≡ map (λ (e : Enclosure). e.lo) enclosures
-  members_lo =
-      ap (map (λ m. m.lo)) (sym view) ∙ lo-member_rows isotopes counts (bounds_of enclosures)
-      ∙ map_map (λ (b : ℕ × ℕ). b.0) (λ (e : Enclosure). (e.lo, e.hi)) enclosures
-
-  pub members_hi : map (λ m. m.hi) members ≡ map (λ (e : Enclosure). e.hi) enclosures
-  members_hi =
-      ap (map (λ m. m.hi)) (sym view) ∙ hi-member_rows isotopes counts (bounds_of enclosures)
-      ∙ map_map (λ (b : ℕ × ℕ). b.1) (λ (e : Enclosure). (e.lo, e.hi)) enclosures
-
--- a member ends within the counts
-pub member_within : (k n width all : ℕ) → k < n → all ≡ n * width → k * width + width ≤ all
-member_within k n width all within long =
-    let more : (k + 1) * width ≤ n * width = mul-le-mul_right width (omega arith) in
-    omega (arith, more)
+-- how many isotopes the elements have together
+pub few_isotopes : (es : List Element) → All (λ e. length e.weights ≤ 16) es →
+    sum (map (λ e. length e.weights) es) ≤ 16 * length es
+few_isotopes [] all = omega arith
+few_isotopes (e ∷ es) all =
+    let here : length e.weights ≤ 16 = All-head (λ (x : Element). length x.weights ≤ 16) e es all in
+    let rest : sum (map (λ (x : Element). length x.weights) es) ≤ 16 * length es =
+    few_isotopes es (All-tail (λ (x : Element). length x.weights ≤ 16) e es all) in
+    omega (arith, here, rest, sum-cons (length e.weights) (map (λ (x : Element). length x.weights) es))

@@ -4,7 +4,9 @@ pub use Rattle.reader_answers.specs.Answers
 pub use Rattle.isotopologue_sets.specs.Layers
 pub use Rattle.isotopologue_sets.specs.Coverage
 pub use Rattle.isotopologue_sets.specs.Covers
+pub use Rattle.layered_envelope.specs.Layerings
 pub mod LayerAnswers
 pub mod CountsByElement
+pub mod Searches
 pub mod MemberRows
-pub mod ListedBounds
+pub mod GatheredRows

@@ -3,7 +3,7 @@
 ghost use Rattle.std.specs.Prelude.{◌≡◌, length, sum, sum_by, take};
 ghost use Rattle.isotopologue_sets.specs.Covers.{fewest};
 
-use multinomial_bounds::Enclosure;
+use crate::members::Row;
 
 /// The least number of bounds, from the first on, that total at least the coverage, and the number of all where
 /// even these don't.
@@ -21,18 +21,18 @@ pub(crate) fn fewest(bounds: &[u64], coverage: u64) -> usize
     bounds.len()
 }
 
-/// The least number of enclosures, from the first on, whose lower bounds total at least the coverage, and the number
-/// of all where even these don't.
-pub(crate) fn fewest_lower(enclosures: &[Enclosure], coverage: u64) -> usize
-    ensures { result ≡ fewest (λ n. sum_by (λ e. e.lo) (take n enclosures.now)) coverage (length enclosures.now) }
+/// The least number of rows, from the first on, whose lower bounds total at least the coverage, and the number of all
+/// where even these don't.
+pub(crate) fn fewest_lower(rows: &[Row], coverage: u64) -> usize
+    ensures { result ≡ fewest (λ n. sum_by (λ r. r.enclosure.lo) (take n rows.now)) coverage (length rows.now) }
 {
     let wanted = u128::from(coverage);
     let mut total: u128 = 0;
-    for (count, enclosure) in enclosures.iter().enumerate() {
+    for (count, row) in rows.iter().enumerate() {
         if total >= wanted {
             return count;
         }
-        total += u128::from(enclosure.lo);
+        total += u128::from(row.enclosure.lo);
     }
-    enclosures.len()
+    rows.len()
 }

@@ -3,16 +3,12 @@
 use crate::fault::CoverFault;
 use crate::fewest::fewest;
 use crate::members::Members;
-use crate::order::ordered_places;
-use crate::threshold::{mode_enclosure, reaching_threshold};
-use isotopologue_list::{IsotopologueList, count_up_to};
+use crate::search::layers_to_reaching;
 use isotopologue_sets::ElementAtoms;
+use layered_envelope::{LayerEnd, Layers};
 use multinomial_bounds::Enclosure;
 use std::alloc::{AllocError, Global};
 use std::marker::Model;
-
-/// The most isotopologues that elements may have together.
-pub const MAX_ISOTOPOLOGUES: u64 = 1_048_576;
 
 /// The reaching layer of elements for a wanted coverage: its members by falling lower bound, ties in the
 /// lexicographic order of their counts, of which the first are the cover.
@@ -97,12 +93,14 @@ ghost use Rattle.multinomial_bounds.specs.Isotopologue.{all_atoms, IsIsotopologu
 ghost use Rattle.isotopologue_sets.specs.Layers.{AreElements};
 ghost use Rattle.isotopologue_sets.specs.Coverage.{max_coverage};
 ghost use Rattle.isotopologue_sets.specs.Covers.{cover_numbers, IsCover};
-ghost use Rattle.reaching_layer.specs.LayerAnswers.{is_memory, numbers_unless_wide};
+ghost use Rattle.reaching_layer.specs.LayerAnswers.{is_memory, numbers_unless_too_many};
+ghost use Rattle.layered_envelope.specs.Layerings.{last_threshold};
+ghost use Rattle.reaching_layer.specs.Searches.{AtReaching};
 
 /// The reaching layer of elements for a wanted coverage in units of 10^-18, from 1 to 999,999 * 10^12.
 ///
-/// `Wide` comes exactly where the elements have more than 1,048,576 isotopologues together, which is found by
-/// counting them; `Memory` for want of memory. Time and memory are in proportion to their number.
+/// `TooMany` comes exactly where a layer has more than 1,048,576 members and none before it has the coverage; its
+/// threshold is that of this layer. `Memory` comes for want of memory.
 pub fn reaching_layer(
     alloc: Global,
     elements: &[ElementAtoms],
@@ -111,7 +109,7 @@ pub fn reaching_layer(
     requires elements { AreElements elements.now }
     requires some { 1 ≤ coverage }
     requires below_one { coverage ≤ max_coverage }
-    ensures cover { Gives is_memory result (numbers_unless_wide elements.now coverage) }
+    ensures cover { Gives is_memory result (numbers_unless_too_many elements.now coverage) }
 
     // What follows from these numbers.
     ensures isotopologues { IfOk result (λ l. All (λ m. IsIsotopologue elements.now m.counts) l.members) }
@@ -121,28 +119,27 @@ pub fn reaching_layer(
     ensures width { IfOk result (λ l. All (λ m.
         m.hi ≤ m.lo + (2 * all_atoms elements.now + length elements.now - 1)) l.members) }
 {
-    if count_up_to(elements, MAX_ISOTOPOLOGUES).is_none() {
-        return Err(CoverFault::Wide);
-    }
-    Ok(layer_of_all(alloc, elements, coverage)?)
+    let (layers, end) = layers_to_reaching(alloc, elements, coverage)?;
+    Ok(layer_of(alloc, elements, &layers, end, coverage)?)
 }
 
-/// The reaching layer of elements all of whose isotopologues are listed.
-fn layer_of_all(
+/// The reaching layer, which was given last.
+fn layer_of(
     alloc: Global,
     elements: &[ElementAtoms],
+    layers: &Layers,
+    end: LayerEnd,
     coverage: u64,
 ) -> Result<ReachingLayer, AllocError>
-    requires { AreElements elements.now }
+    requires elements { AreElements elements.now }
+    requires reaching { AtReaching elements.now coverage layers.now }
+    requires threshold { end.threshold ≡ last_threshold layers.now }
+    requires below_one { coverage ≤ max_coverage }
     ensures { IfOk result (λ l. l ≡ cover_numbers elements.now coverage) }
 {
-    let list = IsotopologueList::of(alloc, elements)?;
-    let mode = mode_enclosure(alloc, elements)?;
-    let threshold = reaching_threshold(list.enclosures(), mode.hi, coverage);
-    let places = ordered_places(alloc, list.enclosures(), threshold)?;
-    let members = Members::at_places(alloc, elements, &list, &places)?;
+    let members = Members::of_layer(alloc, elements, layers, end.members)?;
     Ok(ReachingLayer {
-        threshold,
+        threshold: end.threshold,
         size: members.fewest_lower(coverage),
         bound: fewest(&members.greatest_upper_bounds(alloc)?, coverage),
         members,

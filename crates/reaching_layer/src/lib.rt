@@ -9,20 +9,21 @@
 //! Chemistry 89, 2017).
 //!
 //! A [`ReachingLayer`] is seen by contracts as the cover's numbers: threshold, size, bound, and of each member the
-//! counts and the two bounds of its probability. The crate stands on `isotopologue_sets` for what a cover is, on
-//! `isotopologue_list` for all isotopologues of the elements, on `multinomial_bounds`, `sorted_lists` and
-//! `reader_answers`. The layers above ask [`reaching_layer`] and add texts and masses to what it gives.
+//! counts and the two bounds of its probability. The crate stands on `layered_envelope` for layers and their members,
+//! on `isotopologue_sets` for what a cover is, on `outside_ports` for a counter of steps, on `isotopologue_list` for
+//! lemmas and as the plain list of its tests, on `multinomial_bounds`, `sorted_lists`, `reader_answers` and `thiserror`.
+//! The layers above ask [`reaching_layer`] and add texts and masses to what it gives.
 #![tactic(auto)]
 
 mod fault;
 mod fewest;
 mod layer;
 mod members;
-mod order;
-mod threshold;
+mod search;
 
 pub use fault::CoverFault;
-pub use layer::{MAX_ISOTOPOLOGUES, ReachingLayer, reaching_layer};
+pub use layer::{ReachingLayer, reaching_layer};
+pub use layered_envelope::MAX_MEMBERS;
 
 #[cfg(test)]
 mod tests;

@@ -7,8 +7,9 @@ ghost use Rattle.isotopologue_sets.specs.Layers.{AreElements};
 ghost use Rattle.isotopologue_sets.specs.Coverage.{max_coverage};
 
 use super::*;
+use isotopologue_list::IsotopologueList;
 use isotopologue_sets::ElementAtoms;
-use multinomial_bounds::MAX_ATOMS;
+use multinomial_bounds::{Enclosure, MAX_ATOMS};
 use std::alloc::{AllocError, Global};
 use std::process::Abort;
 use std::test::Fail;
@@ -253,7 +254,7 @@ fn expect_member(
 }
 
 #[test]
-fn as_many_isotopologues_as_are_listed_have_a_layer(rt: HostRuntime) -> Result<(), Fail> {
+fn layers_of_1048576_members_are_not_too_many(rt: HostRuntime) -> Result<(), Fail> {
     let elements = twenty_pairs(rt.alloc())?;
     let layer = reaching_layer(rt.alloc(), &elements, 2_861_022_949_218)?;
     assert_eq!(rt; layer.threshold(), 476_837_158_203);
@@ -264,35 +265,79 @@ fn as_many_isotopologues_as_are_listed_have_a_layer(rt: HostRuntime) -> Result<(
     Ok(())
 }
 
-// 7 * 163 * 919 are 1,048,579: no elements have one or two more isotopologues than are listed.
+// 7 * 163 * 919 are 1,048,579 isotopologues, of which the first layer has the coverage.
 #[test]
-fn the_next_number_of_isotopologues_is_refused(rt: HostRuntime) -> Result<(), Fail> {
+fn more_isotopologues_than_a_layer_may_have_have_a_cover(rt: HostRuntime) -> Result<(), Fail> {
     let mut elements = Vec::new(rt.alloc());
     add_element(rt.alloc(), &mut elements, &[1, 1], 6)?;
     add_element(rt.alloc(), &mut elements, &[1, 1], 162)?;
     add_element(rt.alloc(), &mut elements, &[1, 1], 918)?;
-    match reaching_layer(rt.alloc(), &elements, 1) {
+    let layer = reaching_layer(rt.alloc(), &elements, 1)?;
+    assert_eq!(rt; layer.threshold(), 257_473_671_482_243);
+    assert_eq!(rt; (layer.len(), layer.size(), layer.bound()), (907, 1, 1));
+    expect_member(
+        &rt,
+        &layer,
+        0,
+        &[3, 3, 81, 81, 459, 459],
+        (514_947_342_964_480, 514_947_342_964_487),
+    );
+    Ok(())
+}
+
+// The first layer has 11,240,208 members.
+#[test]
+fn layers_of_more_members_are_refused_with_their_threshold(rt: HostRuntime) -> Result<(), Fail> {
+    let many = only(rt.alloc(), &[1; 16], 100)?;
+    match reaching_layer(rt.alloc(), &many, HALF) {
         Ok(_) => rt.abort(),
         Err(fault) => {
-            assert_eq!(rt; fault, CoverFault::Wide);
+            let threshold = 1_442_992;
+            assert_eq!(rt; fault, CoverFault::TooMany { threshold });
+            let text = format!(in rt.alloc(); "{fault}")?;
+            assert_eq!(rt;
+                text.as_str(),
+                "the layer of threshold 1442992 has more than 1,048,576 members"
+            );
             Ok(())
         }
     }
 }
 
-#[test]
-fn more_isotopologues_than_are_listed_are_refused(rt: HostRuntime) -> Result<(), Fail> {
-    let many = only(rt.alloc(), &[1; 16], 100)?;
-    match reaching_layer(rt.alloc(), &many, HALF) {
-        Ok(_) => rt.abort(),
-        Err(fault) => {
-            assert_eq!(rt; fault, CoverFault::Wide);
-            let text = format!(in rt.alloc(); "{fault}")?;
-            assert_eq!(rt;
-                text.as_str(),
-                "the elements have more than 1,048,576 isotopologues together"
-            );
-            Ok(())
+/// How many of these enclosures have an upper bound above a threshold, and what their lower bounds total.
+fn above(enclosures: &[Enclosure], threshold: u64) -> (usize, u128) {
+    let mut count: usize = 0;
+    let mut total: u128 = 0;
+    for enclosure in enclosures {
+        if enclosure.hi > threshold {
+            count = count.saturating_add(1);
+            total = total.saturating_add(u128::from(enclosure.lo));
         }
     }
+    (count, total)
+}
+
+// The plain way to a layer goes over the list of all isotopologues.
+#[test]
+fn layers_are_those_of_the_list_of_all_isotopologues(rt: HostRuntime) -> Result<(), Fail> {
+    let alloc = rt.alloc();
+    let mut elements = Vec::new(alloc);
+    add_element(alloc, &mut elements, &[989_300_000, 10_700_000], 60)?;
+    add_element(
+        alloc,
+        &mut elements,
+        &[949_900_000, 7_500_000, 42_500_000, 100_000],
+        9,
+    )?;
+    let list = IsotopologueList::of(alloc, &elements)?;
+    for coverage in [HALF, 990_000_000_000_000_000, MOST] {
+        let layer = reaching_layer(alloc, &elements, coverage)?;
+        let (members, total) = above(list.enclosures(), layer.threshold());
+        assert_eq!(rt; layer.len(), members);
+        assert!(rt; total >= u128::from(coverage));
+        let before = layer.threshold().saturating_mul(2).saturating_add(1);
+        let (_, before) = above(list.enclosures(), before);
+        assert!(rt; before < u128::from(coverage));
+    }
+    Ok(())
 }

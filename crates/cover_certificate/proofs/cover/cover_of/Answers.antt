@@ -6,9 +6,9 @@ use Rattle.multinomial_bounds.specs.Bounds.{IsEnclosure}
 use Rattle.multinomial_bounds.specs.Isotopologue.{Element, IsIsotopologue, isotopologue_weight, all_weight}
 use Rattle.isotopologue_sets.specs.Covers.{CoverNumbers, IsCover}
 use Rattle.reaching_layer.specs.declared.fault.CoverFault.{CoverFault}
-use Rattle.reaching_layer.specs.LayerAnswers.{is_memory, numbers_unless_wide}
+use Rattle.reaching_layer.specs.LayerAnswers.{is_memory, numbers_unless_too_many}
 use Rattle.isotopologue_text.specs.Isotopologues.{formula_elements}
-use Rattle.cover_certificate.specs.FormulaCovers.{CoverEntries, member_entry, member_numbers, cover_unless_wide}
+use Rattle.cover_certificate.specs.FormulaCovers.{CoverEntries, member_entry, member_numbers, cover_unless_too_many}
 use Rattle.cover_certificate.proofs.CoverAnswers.{cover_answer, fault_answer}
 use Rattle.cover_certificate.proofs.PrintedMembers.{numbers_of_entries}
 use Rattle.cover_certificate.proofs.cover.cover_of.Goals as goal
@@ -46,7 +46,7 @@ invariant_of-result c =
 pub returns-clause-cover : goal.returns-clause-cover
 returns-clause-cover c =
     let at = (goal.at.returns-clause-cover c).In_ok-numbers in
-    let P : List Element → Type 0 = λ es. numbers_unless_wide es c.args.coverage ≡ Ok c.in_ok-numbers.numbers in
+    let P : List Element → Type 0 = λ es. numbers_unless_too_many es c.args.coverage ≡ Ok c.in_ok-numbers.numbers in
     let same : c.in_ok-clone.field-0 ≡ c.args.formula.now = c.in_ok-clone.ensures.cases in
     rw (same, c.threshold.ensures, c.size.ensures.size, c.bound.ensures, c.in_ok-members_of.ensures.members)
     (cover_answer c.args.table.now c.args.formula.now c.args.coverage c.in_ok-numbers.numbers
@@ -73,10 +73,10 @@ returns-clause-encloses c =
 pub returns-in_err-numbers-clause-cover : goal.returns-in_err-numbers-clause-cover
 returns-in_err-numbers-clause-cover c =
     let fault = c.in_err-numbers.field-0.0 in
-    let P : List Element → Type 0 = λ es. Gives {A = CoverNumbers} is_memory (Err fault) (numbers_unless_wide es c.args.coverage) in
+    let P : List Element → Type 0 = λ es. Gives {A = CoverNumbers} is_memory (Err fault) (numbers_unless_too_many es c.args.coverage) in
     let given : P (formula_elements c.args.table.now c.args.formula.now) =
     subst P (c.deref.ensures.value ∙ c.in_ok-elements.ensures.elements) c.in_err-numbers.ensures.cover in
     let Q : Result CoverEntries CoverFault → Type 0 = λ r.
-    Gives is_memory r (cover_unless_wide c.args.table.now c.args.formula.now c.args.coverage) in
+    Gives is_memory r (cover_unless_too_many c.args.table.now c.args.formula.now c.args.coverage) in
     let is : c.from_residual-in_err-numbers.result ≡ Err fault = search rules in
     subst Q (sym is) (fault_answer c.args.table.now c.args.formula.now c.args.coverage fault given)

@@ -6,7 +6,7 @@ use Rattle.multinomial_bounds.proofs.product.times.Goals as goal
 
 pub returns-clause-encloses : goal.returns-clause-encloses
 returns-clause-encloses c part whole part' whole' x y =
-    rw (c.div_ceil-hi.ensures, c.from.ensures, c.from-2.ensures, c.from-3.ensures, c.from-4.ensures, c.from-unit.ensures)
+    rw (c.times_lower.ensures.value, c.times_upper.ensures.value)
     (IsEnclosure-times c.args.x.lo c.args.x.hi c.args.y.lo c.args.y.hi part whole part' whole' x y)
 
 pub returns-clause-width : goal.returns-clause-width
@@ -15,12 +15,4 @@ returns-clause-width c =
     let y = c.args.y in
     let product = width-times x.lo x.hi (x.hi - x.lo) y.lo y.hi (y.hi - y.lo)
     x.at_most_one (omega arith) (omega arith) (omega arith) in
-    rw (
-      c.div_ceil-hi.ensures,
-      c.from.ensures,
-      c.from-2.ensures,
-      c.from-3.ensures,
-      c.from-4.ensures,
-      c.from-unit.ensures,
-    )
-    (omega (arith, product))
+    rw (c.times_lower.ensures.value, c.times_upper.ensures.value) (omega (arith, product))
