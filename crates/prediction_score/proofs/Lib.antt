@@ -1,0 +1,5 @@
+pub mod RisingKeys
+pub mod OrderedPeaks
+pub mod NearestPeaks
+pub mod MemberTotals
+pub mod ScoreSums
