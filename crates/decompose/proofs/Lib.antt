@@ -17,3 +17,4 @@ pub mod ClimbedSteps
 pub mod WalkBounds
 pub mod StepSums
 pub mod WorkedBounds
+pub mod LeapSteps

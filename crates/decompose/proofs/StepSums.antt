@@ -1,11 +1,11 @@
 -- The lists between three given ones: what several calls pass adds up to what one bound counts.
-use Rattle.std.proofs.Common.{◌≡◌, ℕ, ◌+◌, ◌*◌, ◌/◌, ◌≤◌, Bool, true, false, not, ◌&&◌, Option, Some, None, List, [], ◌∷◌}
+use Rattle.std.proofs.Common.{◌≡◌, ℕ, ◌+◌, ◌/◌, ◌≤◌, Bool, true, false, not, ◌&&◌, Option, Some, None, List, [], ◌∷◌}
 use Rattle.std.proofs.Common.{length, map, replicate, refl, sym, ap, ◌∙◌, inl, inr, subst, arith}
 use Rattle.std.specs.declared.cmp.Ordering.{Ordering}
 use Rattle.std.specs.declared.cmp.Ordering.TheVariants.{Less, Equal, Greater}
 use Rattle.std.specs.Ordering.{is_lt, nat_cmp}
 use Rattle.std.specs.Cmp.Lexicographic.{slice_cmp}
-use Rattle.std.specs.List.{filter, Contains}
+use Rattle.std.specs.List.{filter}
 use Rattle.std.proofs.lemmas.Bool.{cases_Bool, and_parts, and_right, false≢true, leb-true}
 use Rattle.std.proofs.lemmas.Cmp.{nat_list_cmp_total}
 use Rattle.std.proofs.lemmas.List.{length-map}
@@ -13,7 +13,7 @@ use Rattle.mass_scaling.specs.Masses.{AreMasses, base_of, mass_of}
 use Rattle.mass_scaling.specs.Scales.{AreScaled, IsInScaledWindow, scaled_of, grain_for}
 use Rattle.mass_scaling.specs.declared.windows.Window.{Window}
 use Rattle.mass_scaling.proofs.ScaledWindows.{loses_nothing}
-use Rattle.decompose.specs.CountLists.{IsInBox, box_of, comes_after, follows, is_up_to}
+use Rattle.decompose.specs.CountLists.{IsInBox, comes_after, follows, is_up_to}
 use Rattle.decompose.specs.Enumeration.{is_within}
 use Rattle.decompose.specs.Levels.{scaled_masses_of}
 use Rattle.decompose.specs.Numbers.{HasRoom}

@@ -8,3 +8,4 @@ pub mod Probes
 pub mod Walk
 pub mod StepBounds
 pub mod Numbers
+pub mod Strides

@@ -152,6 +152,25 @@ impl Symbol {
     }
 }
 
+impl Symbol {
+    /// A count raised by some more, and what these leave of a number; None where the count comes above the limit or
+    /// their mass above the number.
+    pub(crate) fn raised_by(self, count: u32, number: u64, more: u64) -> Option<(u32, u64)>
+        requires { count ≤ self.limit.high }
+        ensures { MatchOption result
+            ((self.limit.high < count + more) ⊎ (number < more * self.mass))
+            (λ raised. (raised.0 ≡ count + more) × (count + more ≤ self.limit.high)
+            × (more * self.mass ≤ number) × (raised.1 ≡ number - more * self.mass)) }
+    {
+        if u64::from(self.limit.high - count) < more {
+            return None;
+        }
+        let taken = more.checked_mul(self.mass)?;
+        let less = number.checked_sub(taken)?;
+        Some((count + more as u32, less))
+    }
+}
+
 impl Level {
     /// The level with one more of the symbol. None where the count is at its limit or the symbol's mass
     /// above what is left.

@@ -16,6 +16,7 @@ mod levels;
 mod limits;
 mod mass_tables;
 mod probes;
+mod strides;
 mod walk;
 
 pub use count_list::Counts;

@@ -11,6 +11,7 @@ ghost use Rattle.decompose.specs.Walk.{limits_from, FindsFirst, StandsAt, given_
 
 use crate::levels::{Level, Symbol, window_less};
 use crate::probes::{may_fill, scaled_at};
+use crate::strides::Strides;
 use mass_scaling::Window;
 use outside_ports::Steps;
 use residue_table::Residues;
@@ -30,7 +31,8 @@ fn first_low(symbols: &[Symbol]) -> u32
 /// the heavier one on; false where there is none, and the levels are then as before.
 ///
 /// For each count of the heavier symbol, the remainder of what is left by the lighter one's mass tells
-/// whether a count of the lighter one fits. It is kept from count to count without a division.
+/// whether a count of the lighter one fits. Counts whose remainders can't come down to the window's width are
+/// leapt over.
 fn find_in_pair(
     heavier: Symbol,
     lighter: Symbol,
@@ -47,7 +49,7 @@ fn find_in_pair(
         return false;
     };
     let width = window.hi - window.lo;
-    let step = heavier.mass % lighter.mass;
+    let strides = Strides::of(heavier.mass, lighter.mass);
     let mut count = count;
     let mut hi = first.left.hi;
     let mut remainder = hi % lighter.mass;
@@ -61,15 +63,13 @@ fn find_in_pair(
             levels[1] = last;
             return true;
         }
-        if heavier.limit.high <= count {
-            return false;
-        }
-        let Some(less) = hi.checked_sub(heavier.mass) else {
+        let leap = strides.leap(remainder, width);
+        let Some((raised, less)) = heavier.raised_by(count, hi, leap.times + 1) else {
             return false;
         };
-        count += 1;
+        count = raised;
         hi = less;
-        remainder = lighter.remainder_less(remainder, step);
+        remainder = lighter.remainder_less(leap.remainder, strides.fall);
     }
 }
 

@@ -1,7 +1,8 @@
-use Rattle.std.proofs.Common.{◌∷◌, [], ◌-◌, ◌%◌, length, refl, sym, ap, inl, inr, ◌∙◌}
+use Rattle.std.proofs.Common.{◌≡◌, ◌∷◌, [], ◌+◌, ◌-◌, ◌*◌, ◌%◌, ◌≤◌, length, refl, sym, ap, ◌∙◌, arith}
 use Rattle.decompose.specs.declared.levels.Level.{Level}
-use Rattle.decompose.proofs.WalkSteps.{walk_begins, walk_begins_not, walk_finds, walk_goes_on, walk_ends}
-use Rattle.decompose.proofs.WalkSteps.{one_found, one_none, two_written, level_narrow, narrow_less, not_below}
+use Rattle.decompose.proofs.WalkSteps.{walk_begins, walk_begins_not, walk_finds}
+use Rattle.decompose.proofs.WalkSteps.{one_found, two_written, level_narrow}
+use Rattle.decompose.proofs.LeapSteps.{leapt, leapt_remainder, leap_on, leap_ends}
 use Rattle.decompose.proofs.walk.find_in_pair.Goals as goal
 
 pub returns-in_default : goal.returns-in_default
@@ -35,39 +36,41 @@ returns-in-Some-first_by_remainder c =
       (reaches.is_level, (within.is_level, tt)),
     )
 
-pub returns-then-heavier-count : goal.returns-then-heavier-count
-returns-then-heavier-count c =
-    let reaches = c.counts.invariant.reaches in
-    let none = one_none c.args.lighter _ c.in_default-first_by_remainder.ensures in (
-      walk_ends c.args.heavier (c.args.lighter ∷ []) c.args.count c.args.window _ reaches none
-          (inl c.if-heavier-count.true),
-      c.counts.invariant.unchanged,
-    )
-
-pub returns-in_default-checked_sub : goal.returns-in_default-checked_sub
-returns-in_default-checked_sub c =
-    let reaches = c.counts.invariant.reaches in
-    let none = one_none c.args.lighter _ c.in_default-first_by_remainder.ensures in (
-      walk_ends c.args.heavier (c.args.lighter ∷ []) c.args.count c.args.window _ reaches none
-          (inr (not_below c.args.heavier.mass c.counts.hi c.in_default-checked_sub.ensures)),
+pub returns-in_default-raised_by : goal.returns-in_default-raised_by
+returns-in_default-raised_by c =
+    let width = c.args.window.hi - c.args.window.lo in
+    let none =
+    leapt c.args.heavier c.args.lighter c.args.count c.args.window width c.counts.hi c.counts.remainder
+    c.of-strides.result c.leap-leap.result c.requires.positive c.of-strides.ensures.mass c.of-strides.ensures.fall
+    c.leap-leap.ensures.leaps c.counts.invariant.remainder c.in_default-first_by_remainder.ensures in (
+      leap_ends c.args.heavier c.args.lighter c.args.count c.args.window width c.leap-leap.result.times c.counts.count
+          c.counts.hi c.counts.invariant.reaches none c.in_default-raised_by.ensures,
       c.counts.invariant.unchanged,
     )
 
 pub counts-preserved : goal.counts-preserved
 counts-preserved c =
-    let reaches = c.counts.invariant.reaches in
-    let none = one_none c.args.lighter _ c.in_default-first_by_remainder.ensures in
-    let sub = c.in-Some-checked_sub.ensures in
+    let width = c.args.window.hi - c.args.window.lo in
+    let m = c.args.heavier.mass in
+    let times = c.leap-leap.result.times in
+    let raised = c.in-Some-raised_by.ensures in
+    let none =
+    leapt c.args.heavier c.args.lighter c.args.count c.args.window width c.counts.hi c.counts.remainder
+    c.of-strides.result c.leap-leap.result c.requires.positive c.of-strides.ensures.mass c.of-strides.ensures.fall
+    c.leap-leap.ensures.leaps c.counts.invariant.remainder c.in_default-first_by_remainder.ensures in
+    let over : times * m ≤ c.counts.hi = omega (arith, raised.2) in
+    let behind =
+    leapt_remainder c.args.heavier c.args.lighter c.args.count c.args.window width c.counts.hi c.counts.remainder
+    c.of-strides.result c.leap-leap.result c.of-strides.ensures.mass c.of-strides.ensures.fall
+    c.leap-leap.ensures.leaps c.counts.invariant.remainder over in
+    let one_more : c.counts.hi - times * m - m ≡ c.counts.hi - (times + 1) * m = omega arith in
     let less =
-    c.remainder_less-remainder.ensures c.counts.hi c.args.heavier.mass sub.0 (sym c.counts.invariant.remainder) refl in
+    c.remainder_less-remainder.ensures (c.counts.hi - times * m) m (omega (arith, raised.2)) behind
+    (sym c.of-strides.ensures.fall) in
     record {
-      reaches = walk_goes_on c.args.heavier (c.args.lighter ∷ []) c.args.count c.args.window _ reaches none _ (
-        refl,
-        c.if-heavier-count.false,
-        sub.0,
-        narrow_less (c.args.window.hi - c.args.window.lo) c.counts.hi c.in-Some-checked_sub.less c.args.heavier.mass
-            sub.1,
-      );
-      remainder = sym (ap (λ n. n % c.args.lighter.mass) sub.1 ∙ less);
+      reaches = rw (raised.0, raised.3)
+          (leap_on c.args.heavier c.args.lighter c.args.count c.args.window width times c.counts.count c.counts.hi
+          c.counts.invariant.reaches none (omega (arith, raised.1)) raised.2);
+      remainder = sym (ap (λ n. n % c.args.lighter.mass) (raised.3 ∙ sym one_more) ∙ less);
       unchanged = c.counts.invariant.unchanged;
     }
