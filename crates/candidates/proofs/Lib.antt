@@ -7,3 +7,4 @@ pub mod TokenCounts
 pub mod NumberedItems
 pub mod HillCounts
 pub mod CandidateTests
+pub mod LineTexts

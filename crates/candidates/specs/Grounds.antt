@@ -1,6 +1,6 @@
 -- The premises on which the formulas of peaks are listed: a table, an alphabet, an adduct, a tolerance and rules.
 use Rattle.std.specs.Prelude.{List, All}
-use Rattle.element_table.specs.Elements.{TableEntries}
+use Rattle.element_table.specs.Elements.{TableEntries, IsTable}
 use Rattle.mass_scaling.specs.declared.tolerances.Tolerance.{Tolerance}
 use Rattle.mass_scaling.specs.Limits.{IsTolerance}
 use Rattle.formula_text.specs.Masses.{HasItems}
@@ -18,6 +18,7 @@ pub record GroundValue : Type 0 where
 
 -- the alphabet and the adduct are of the table, and the tolerance is within its limits
 pub record IsGround (premises : GroundValue) : Type 0 where
+  pub is_table : IsTable premises.table
   pub is_alphabet : IsAlphabet premises.alphabet
   pub entries : All (IsEntryOf premises.table) premises.alphabet
   pub is_adduct : IsAdduct premises.adduct

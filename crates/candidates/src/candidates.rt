@@ -7,8 +7,6 @@ ghost use Rattle.candidates.specs.PeakFormulas.{formulas_of_peak, formula_at, co
 ghost use Rattle.candidates.specs.Enumeration.{counts_left, formulas_left};
 ghost use Rattle.candidates.specs.Lines.{given_line};
 ghost use Rattle.decompose.specs.Enumeration.{lists_after};
-ghost use Rattle.formula_text.specs.Masses.{HasItems};
-ghost use Rattle.report_text.specs.ReportLines.{decompose_line};
 ghost use Rattle.formula_text.specs.Formulas.{IsFormula, count_in};
 ghost use Rattle.candidates.specs.Searches.{Covers, Admits};
 ghost use Rattle.std.specs.List.{list_any};
@@ -17,14 +15,13 @@ ghost use Rattle.candidates.specs.Tokens.{IsInAlphabetBox, has_only, fits};
 ghost use Rattle.candidates.specs.Standings.{IsToken};
 
 use crate::grounds::Ground;
+use crate::line::push_line;
 use crate::search::{Search, counts_of};
-use adducts::ion_mass;
 use alphabet_text::Alphabet;
 use decompose::{Counts, Decomps, Limit, ResumeFault, Window};
 use formula_text::Formula;
 use mass_scaling::window_of;
 use outside_ports::Steps;
-use report_text::push_decompose_line;
 use std::alloc::{AllocError, Global};
 use std::marker::Model;
 use std::sync::ledger::Ledger;
@@ -246,10 +243,10 @@ impl<'t> Candidates<'t> {
         ensures line { OnOk result (report.new.items ≡ report.old.items ++ given_line self.now) }
         ensures refused { OnErr result (report.new.items ≡ report.old.items) }
     {
-        match self.token()? {
-            Some(formula) => push_formula_line(self.premises, self.mz, &formula, report),
-            None => Ok(()),
+        if !self.has_given {
+            return Ok(());
         }
+        push_line(self.premises, self.mz, self.last.counts(), report)
     }
 
     /// The formula of the count list given last, with which `resume` goes on. None where none was given since `start`.
@@ -263,26 +260,6 @@ impl<'t> Candidates<'t> {
         let parts = counts_of(self.alloc, self.premises.alphabet(), self.last.counts())?;
         Formula::of(self.alloc, &parts)
     }
-}
-
-/// Appends the line of a formula over its ion, nothing where the ion isn't defined.
-fn push_formula_line(
-    premises: &Ground,
-    mz: u64,
-    formula: &Formula,
-    report: &mut Vec<u8>,
-) -> Result<(), AllocError>
-    requires { HasItems premises.now.table formula.now }
-    ensures line { OnOk result (report.new.items
-        ≡ report.old.items ++ decompose_line premises.now.table formula.now premises.now.adduct mz) }
-    ensures refused { OnErr result (report.new.items ≡ report.old.items) }
-{
-    let adduct = premises.adduct();
-    let table = premises.table();
-    if ion_mass(table, formula, adduct).is_none() {
-        return Ok(());
-    }
-    push_decompose_line(report, table, formula, adduct, mz)
 }
 
 /// Room for a formula of an alphabet.

@@ -39,7 +39,7 @@ impl HillOrder {
         requires order { IsHillOrder items.now self.now }
         requires different { AllPairs (λ a b. a ≢ b) items.now }
         requires one_count_each { length counts.now ≡ length items.now }
-        requires room { length room.old ≡ length items.now }
+        requires room { length items.now ≤ length room.old }
         ensures formula { take result room.new ≡ sum_of (zip items.now counts.now) }
         ensures items { All (λ p. IsItem p.0) (take result room.new) }
         ensures few { result ≤ length room.old }

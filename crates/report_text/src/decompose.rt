@@ -11,6 +11,7 @@ use adducts::{Adduct, ion_mass};
 use element_table::Table;
 use formula_text::Formula;
 use std::alloc::{AllocError, Global};
+use written_items::Item;
 
 /// The line above the peaks of a report on so many.
 pub fn decompose_head(alloc: Global, peaks: u64) -> Result<Vec<u8>, AllocError>
@@ -72,6 +73,23 @@ pub fn formula_line(
 pub fn push_formula_line(
     report: &mut Vec<u8>,
     formula: &Formula,
+    mass: u64,
+    ion_mass: i128,
+    mz: u64,
+    divisor: u32,
+) -> Result<(), AllocError>
+    requires { IsPrintedMass ion_mass }
+    ensures line { OnOk result (
+        report.new.items ≡ report.old.items ++ formula_line formula.now mass ion_mass mz divisor) }
+    ensures refused { OnErr result (report.new.items ≡ report.old.items) }
+{
+    push_items_line(report, formula.items(), mass, ion_mass, mz, divisor)
+}
+
+/// Appends the same of a formula of which these are the items with their counts, in Hill order.
+pub fn push_items_line(
+    report: &mut Vec<u8>,
+    formula: &[(Item, u32)],
     mass: u64,
     ion_mass: i128,
     mz: u64,

@@ -35,7 +35,7 @@ fn push_head_lines(report: &mut Vec<u8>, cover: &Cover) -> Result<(), AllocError
 {
     push_line(
         report,
-        &[Word::Text(b"envelope"), Word::Formula(cover.formula())],
+        &[Word::Text(b"envelope"), Word::Formula(cover.formula().items())],
     )?;
     push_line(
         report,

@@ -17,7 +17,7 @@ mod word;
 
 pub use decompose::{
     decompose_head, decompose_line, formula_line, peak_line, push_decompose_head,
-    push_decompose_line, push_formula_line, push_peak_line,
+    push_decompose_line, push_formula_line, push_items_line, push_peak_line,
 };
 pub use envelope::{
     envelope_head, envelope_text, isotopologue_line, push_envelope_head, push_envelope_text,

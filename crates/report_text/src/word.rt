@@ -5,18 +5,17 @@ ghost use Rattle.formula_text.specs.PrintedText.{printed_text};
 ghost use Rattle.report_text.specs.ReportLines.{IsPrintedMass, ion_mass_text, mass_text};
 ghost use Rattle.report_text.specs.Words.{word_text};
 
-use formula_text::Formula;
 use itoa::{Buffer, write_digits};
 use std::alloc::AllocError;
-use written_items::{push_count, push_item};
+use written_items::{Item, push_count, push_item};
 
 /// A word of a line.
 #[derive(Clone, Copy)]
 pub enum Word<'a> {
     /// A text as it is.
     Text(&'a [u8]),
-    /// The printed text of a formula.
-    Formula(&'a Formula),
+    /// The printed text of a formula, of which these are the items with their counts.
+    Formula(&'a [(Item, u32)]),
     /// A whole number.
     Number(u64),
     /// A mass in 10^-12 Da, printed with 12 decimals.
@@ -53,7 +52,7 @@ pub fn push_word(text: &mut Vec<u8>, word: &Word<'_>) -> Result<(), AllocError>
 {
     match *word {
         Word::Text(bytes) => text.extend_from_slice(bytes),
-        Word::Formula(formula) => push_formula(text, formula),
+        Word::Formula(items) => push_formula(text, items),
         Word::Number(number) => {
             let mut digits = Buffer::new();
             text.extend_from_slice(digits.format(number).as_bytes())
@@ -71,11 +70,11 @@ pub fn push_word(text: &mut Vec<u8>, word: &Word<'_>) -> Result<(), AllocError>
 }
 
 /// Appends the printed text of a formula. Without room for all of it a part may be appended.
-fn push_formula(text: &mut Vec<u8>, formula: &Formula) -> Result<(), AllocError>
-    ensures text { OnOk result (text.new.items ≡ text.old.items ++ printed_text formula.now) }
+fn push_formula(text: &mut Vec<u8>, items: &[(Item, u32)]) -> Result<(), AllocError>
+    ensures text { OnOk result (text.new.items ≡ text.old.items ++ printed_text items.now) }
     ensures kept { OnErr result (take (length text.old.items) text.new.items ≡ text.old.items) }
 {
-    for (item, count) in formula.items() {
+    for (item, count) in items {
         push_item(text, item)?;
         push_count(text, *count)?;
     }

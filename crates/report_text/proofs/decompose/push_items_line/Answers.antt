@@ -4,7 +4,7 @@ use Rattle.std.specs.Prelude.{ℤ}
 use Rattle.std.proofs.lemmas.Int.{to_z-of_z}
 use Rattle.report_text.specs.ReportLines.{ion_mass_text, mass_difference}
 use Rattle.report_text.proofs.WordsOfLines.{formula_line-words}
-use Rattle.report_text.proofs.decompose.push_formula_line.Goals as goal
+use Rattle.report_text.proofs.decompose.push_items_line.Goals as goal
 
 pub returns-clause-line : goal.returns-clause-line
 returns-clause-line c =

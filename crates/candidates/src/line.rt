@@ -1,0 +1,91 @@
+//! The line of a candidate in a report.
+ghost use Rattle.std.specs.Prelude.{◌≡◌, ◌+◌, ◌*◌, ◌^◌, ◌<◌, ◌≤◌, ◌++◌, pos, ◌+ℤ◌, length, OnOk, OnErr, unsigned_abs};
+ghost use Rattle.formula_text.specs.Formulas.{IsFormula};
+ghost use Rattle.formula_text.specs.Masses as formulas;
+ghost use Rattle.decompose.specs.Masses.{mass_of};
+ghost use Rattle.mass_scaling.specs.declared.limits.TheConstants.{MAX_COPIES};
+ghost use Rattle.adducts.specs.Ions.{shift_of};
+ghost use Rattle.report_text.specs.ReportLines.{decompose_line};
+ghost use Rattle.candidates.specs.Lines.{line_at};
+ghost use Rattle.candidates.specs.Standings.{IsToken};
+
+use crate::grounds::Ground;
+use adducts::has_ion;
+use alphabet_text::MAX_ENTRIES;
+use report_text::push_items_line;
+use std::alloc::AllocError;
+use written_items::Item;
+
+/// Appends the line of the formula of a count list over its ion, nothing where the ion isn't defined. Without room for
+/// it the report stays as it was.
+pub(crate) fn push_line(
+    premises: &Ground,
+    mz: u64,
+    counts: &[u32],
+    report: &mut Vec<u8>,
+) -> Result<(), AllocError>
+    requires { IsToken premises.now counts.now }
+    ensures line { OnOk result (report.new.items ≡ report.old.items ++ line_at premises.now mz counts.now) }
+    ensures refused { OnErr result (report.new.items ≡ report.old.items) }
+{
+    let alphabet = premises.alphabet();
+    let items = alphabet.items();
+    let mut room = [(items[0], 0); MAX_ENTRIES];
+    let count = premises.hill().write(items, counts, &mut room);
+    let mass = mass_of(alphabet.masses(), counts);
+    push_formula(premises, mz, mass, &room[..count], report)
+}
+
+/// Appends the line of a formula of this mass over its ion, nothing where the ion isn't defined. Without room for it
+/// the report stays as it was.
+fn push_formula(
+    premises: &Ground,
+    mz: u64,
+    mass: u64,
+    formula: &[(Item, u32)],
+    report: &mut Vec<u8>,
+) -> Result<(), AllocError>
+    requires formula { IsFormula formula.now }
+    requires mass { mass ≡ formulas.mass_of premises.now.table formula.now }
+    ensures line { OnOk result (report.new.items
+        ≡ report.old.items ++ decompose_line premises.now.table formula.now premises.now.adduct mz) }
+    ensures refused { OnErr result (report.new.items ≡ report.old.items) }
+{
+    let adduct = premises.adduct();
+    if !has_ion(formula, adduct) {
+        return Ok(());
+    }
+    let ion_mass = ion_mass(premises, mass);
+    push_items_line(report, formula, mass, ion_mass, mz, adduct.divisor())
+}
+
+/// The mass of a count list, in 10^-12 Da.
+fn mass_of(masses: &[u64], counts: &[u32]) -> u64
+    requires one_count_each { length counts.now ≡ length masses.now }
+    requires light { mass_of masses.now counts.now < 2 ^ 64 }
+    ensures { result ≡ mass_of masses.now counts.now }
+{
+    let mut mass = 0;
+    for (place, unit) in masses.iter().enumerate() {
+        mass += u64::from(counts[place]) * unit;
+    }
+    mass
+}
+
+/// The mass of the ion of a formula of this mass, in 10^-12 Da.
+fn ion_mass(premises: &Ground, mass: u64) -> i128
+    ensures { result ≡ pos (premises.now.adduct.copies * mass)
+        +ℤ shift_of premises.now.table premises.now.adduct }
+{
+    let charged = premises.charged();
+    copied_mass(charged.copies, mass) + charged.shift
+}
+
+/// The mass of copies of a formula.
+fn copied_mass(copies: u32, mass: u64) -> i128
+    requires { copies ≤ MAX_COPIES }
+    ensures mass { result ≡ pos (copies * mass) }
+    ensures small { unsigned_abs result < 2 ^ 66 }
+{
+    i128::from(copies) * i128::from(mass)
+}
