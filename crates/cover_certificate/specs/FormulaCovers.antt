@@ -4,7 +4,7 @@ use Rattle.std.specs.Prelude.{ℕ, List, length, map, Result, Ok, Err, if◌then
 use Rattle.std.specs.List.{concat}
 use Rattle.multinomial_bounds.specs.Isotopologue.{Element}
 use Rattle.isotopologue_sets.specs.Layers.{has_too_many, last_threshold_for}
-use Rattle.isotopologue_sets.specs.Covers.{Member, cover_numbers}
+use Rattle.isotopologue_sets.specs.Covers.{Member, CoverNumbers, cover_numbers}
 use Rattle.reaching_layer.specs.CountsByElement.{counts_by_element}
 use Rattle.reaching_layer.specs.declared.fault.CoverFault.{CoverFault}
 use Rattle.reaching_layer.specs.declared.fault.CoverFault.TheVariants.{TooMany}
@@ -31,6 +31,12 @@ pub record CoverEntries : Type 0 where
   pub bound : ℕ
   pub layer : List MemberEntry
 
+-- a cover by its numbers, without texts and masses
+pub record NumberedEntries : Type 0 where
+  pub formula : List (Item × ℕ)
+  pub coverage : ℕ
+  pub numbers : CoverNumbers
+
 -- a member with its text and its mass
 unfoldable pub member_entry : TableEntries → List (Item × ℕ) → Member → MemberEntry
 member_entry table formula member =
@@ -41,6 +47,18 @@ member_entry table formula member =
       mass = isotopologue_mass_of table formula counts;
       lo = member.lo;
       hi = member.hi;
+    }
+
+-- the cover whose numbers these are
+abbrev pub with_texts : TableEntries → NumberedEntries → CoverEntries
+with_texts table cover =
+    record {
+      formula = cover.formula;
+      coverage = cover.coverage;
+      threshold = cover.numbers.threshold;
+      size = cover.numbers.size;
+      bound = cover.numbers.bound;
+      layer = map (member_entry table cover.formula) cover.numbers.members;
     }
 
 -- the cover of a formula for a coverage

@@ -4,6 +4,8 @@
 //! Its contract says what the numbers claim: the first members, as many as its size, reach the coverage in exact
 //! weights, and no set of isotopologues with fewer members than its bound does.
 //!
+//! A [`NumberedCover`] is the same without texts and masses, which it makes member by member where they are printed.
+//!
 //! A [`Cover`] is seen by contracts as its formula, coverage, threshold, size and bound and the members of its layer,
 //! and a [`CoverMember`] as its counts, its text, its mass and its two bounds. The crate stands on `reaching_layer`
 //! and `isotopologue_sets` for the cover's numbers, on `isotopologue_text` for what is printed, on
@@ -13,9 +15,11 @@
 
 mod cover;
 mod member;
+mod numbered;
 
 pub use cover::{Cover, cover_of};
 pub use member::CoverMember;
+pub use numbered::{NumberedCover, numbered_cover_of};
 pub use reaching_layer::CoverFault;
 
 #[cfg(test)]

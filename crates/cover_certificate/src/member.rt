@@ -65,7 +65,8 @@ impl CoverMember {
     }
 }
 
-ghost use Rattle.std.specs.Prelude.{◌≡◌, All, IfOk, map};
+ghost use Rattle.std.specs.Prelude.{◌≡◌, ◌<◌, All, IfOk, length, map, slice_index_or};
+ghost use Rattle.isotopologue_sets.specs.Covers.{Member};
 ghost use Rattle.multinomial_bounds.specs.Isotopologue.{IsIsotopologue};
 ghost use Rattle.formula_text.specs.Masses.{HasItems};
 ghost use Rattle.isotopologue_text.specs.Isotopologues.{formula_elements, IsIsotopologueOf};
@@ -87,13 +88,30 @@ pub(crate) fn members_of(
 {
     let mut members = Vec::new(alloc);
     for place in 0..layer.len() {
-        let counts = layer.counts(place);
-        members.push(CoverMember {
-            counts: counts.to_vec(alloc)?,
-            text: isotopologue_text(alloc, table, formula, counts)?,
-            mass: isotopologue_mass(table, formula, counts),
-            enclosure: layer.enclosure(place),
-        })?;
+        members.push(member_at(alloc, table, formula, layer, place)?)?;
     }
     Ok(members)
+}
+
+/// The member at a place of the reaching layer of a formula's elements, with its text and mass.
+pub(crate) fn member_at(
+    alloc: Global,
+    table: &Table,
+    formula: &Formula,
+    layer: &ReachingLayer,
+    place: usize,
+) -> Result<CoverMember, AllocError>
+    requires known { HasItems table.now formula.now }
+    requires isotopologues { All (λ m. IsIsotopologue (formula_elements table.now formula.now) m.counts) layer.now.members }
+    requires within { place < length layer.now.members }
+    ensures { IfOk result (λ m. (d : Member) →
+        m ≡ member_entry table.now formula.now (slice_index_or layer.now.members place d)) }
+{
+    let counts = layer.counts(place);
+    Ok(CoverMember {
+        counts: counts.to_vec(alloc)?,
+        text: isotopologue_text(alloc, table, formula, counts)?,
+        mass: isotopologue_mass(table, formula, counts),
+        enclosure: layer.enclosure(place),
+    })
 }

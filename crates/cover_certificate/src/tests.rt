@@ -484,6 +484,26 @@ fn elements_of_10_000_atoms_have_covers(rt: HostRuntime) -> Result<(), Fail> {
     Ok(())
 }
 
+#[test]
+fn members_get_their_texts_one_at_a_time(rt: HostRuntime) -> Result<(), Fail> {
+    let alloc = rt.alloc();
+    let table = read_table(alloc, ELEMENTS)?;
+    let formula = read_formula(alloc, &table, b"CO2")?;
+    assert!(rt; has_items(&table, &formula));
+    let found = numbered_cover_of(alloc, &table, &formula, 990_000_000_000_000_000)?;
+    assert_eq!(rt; (found.size(), found.bound(), found.len()), (2, 2, 2));
+    assert_eq!(rt; found.threshold(), 7_691_389_404_043_515);
+    assert_eq!(rt; found.coverage(), 990_000_000_000_000_000);
+    assert_eq!(rt; found.formula().items(), formula.items());
+    assert!(rt; found.len() > 1);
+    let last = found.member(alloc, &table, 1)?;
+    let (text, mass, lo, hi) = DIOXIDES[1];
+    assert_eq!(rt; last.text(), text);
+    assert_eq!(rt; last.mass(), mass);
+    assert_eq!(rt; (last.enclosure().lo, last.enclosure().hi), (lo, hi));
+    Ok(())
+}
+
 // Insulin and six more atoms of its elements have more than 10^12 isotopologues. IsoSpec's cover has 419 members, too.
 #[test]
 fn covers_of_large_formulas_are_found(rt: HostRuntime) -> Result<(), Fail> {
