@@ -3,3 +3,4 @@ pub mod ListedLines
 pub mod ListedSoFar
 pub mod ReadLines
 pub mod OneReading
+pub mod WrittenLines

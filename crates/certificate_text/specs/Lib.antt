@@ -9,3 +9,4 @@ pub mod CertificateFaults
 pub mod CertificateLines
 pub mod CertificateReadings
 pub mod CertificateReader
+pub mod WrittenCertificates

@@ -7,7 +7,8 @@
 //! Contracts see a certificate as its formula, its four numbers and its [`CertLine`]s, and a line as its mark and its
 //! text. The crate stands on `file_lines` for lines, `formula_text` for the formula, `fixed_decimal` for numbers,
 //! `element_table` for the table and `reader_answers` for the form of its answers. The layers above read the bytes of a
-//! file by [`read_certificate`].
+//! file by [`read_certificate`]. What writes a certificate cites the definition of its text, which is read as that
+//! certificate again.
 #![tactic(auto)]
 
 mod certificate;

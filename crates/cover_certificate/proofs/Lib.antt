@@ -1,2 +1,3 @@
 pub mod PrintedMembers
 pub mod CoverAnswers
+pub mod WrittenCovers

@@ -8,3 +8,6 @@ pub use Rattle.reaching_layer.specs.LayerAnswers
 pub use Rattle.reaching_layer.specs.CountsByElement
 pub use Rattle.isotopologue_text.specs.Isotopologues
 pub mod FormulaCovers
+pub use Rattle.certificate_text.specs.Certificates
+pub use Rattle.certificate_text.specs.WrittenCertificates
+pub mod CoverCertificates

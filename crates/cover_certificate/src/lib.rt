@@ -11,16 +11,26 @@
 //! and `isotopologue_sets` for the cover's numbers, on `isotopologue_text` for what is printed, on
 //! `multinomial_bounds`, `formula_text`, `element_table` and `reader_answers`. The program asks [`cover_of`] for the
 //! cover of a formula, which refuses one whose layers have too many members before they have the coverage.
+//!
+//! [`write_certificate`] gives the text of a cover's certificate, which `certificate_text` reads again: the same
+//! formula, numbers, marks and texts. What reads certificates and the texts of isotopologues is given out from here
+//! too.
 #![tactic(auto)]
 
+mod certificate;
 mod cover;
 mod member;
 mod numbered;
 
+pub use certificate::{CertificateWrite, write_certificate};
+pub use certificate_text::{CertLine, Certificate, CertificateFault, read_certificate};
 pub use cover::{Cover, cover_of};
+pub use isotopologue_text::{isotopologue_into, isotopologue_of, isotopologue_text};
 pub use member::CoverMember;
 pub use numbered::{NumberedCover, numbered_cover_of};
 pub use reaching_layer::CoverFault;
 
+#[cfg(test)]
+mod certificate_tests;
 #[cfg(test)]
 mod tests;
