@@ -1,5 +1,6 @@
 -- The isotopologues of a formula: their elements, their texts and their masses.
-use Rattle.std.specs.Prelude.{ℕ, ◌+◌, ◌*◌, ◌==◌, ◌≡◌, ◌≤◌, nat_lt, Bool, List, [], ◌∷◌, ◌++◌, map, filter, flat_map, sum_by, sum, length, take, if◌then◌else◌, Option, Some, None}
+use Rattle.std.specs.Prelude.{ℕ, ◌+◌, ◌*◌, ◌==◌, ◌≡◌, ◌≤◌, nat_lt, Bool, List, [], ◌∷◌, ◌++◌, map, filter, flat_map}
+use Rattle.std.specs.Prelude.{sum_by, sum, length, take, if◌then◌else◌, Option, Some, None}
 use Rattle.std.specs.List.{zip, concat, list_any}
 use Rattle.multinomial_bounds.specs.Isotopologue.{Element, IsIsotopologue}
 use Rattle.element_table.specs.declared.element.Isotope.{Isotope}
@@ -80,6 +81,16 @@ dash = 45 ∷ []
 abbrev pub isotopologue_text_of : TableEntries → List (Item × ℕ) → List ℕ → List ℕ
 isotopologue_text_of table formula counts =
     if list_any (λ p. is_plain p.0) formula then counts_text (isotope_items table formula) counts else dash
+
+-- these are the counts of an isotopologue of the formula, and this is its text
+pub record HasText (table : TableEntries) (formula : List (Item × ℕ)) (text counts : List ℕ) : Type 0 where
+  pub isotopologue : IsIsotopologueOf table formula counts
+  pub text_is : isotopologue_text_of table formula counts ≡ text
+
+-- the counts of the isotopologue that has this text, none where no isotopologue has it
+abbrev pub IsOfText : TableEntries → List (Item × ℕ) → List ℕ → Option (List ℕ) → Type 0
+IsOfText table formula text None = (counts : List ℕ) → ¬ HasText table formula text counts
+IsOfText table formula text (Some counts) = HasText table formula text counts
 
 -- the sum of count times mass over isotopes
 abbrev pub counts_mass : List Isotope → List ℕ → ℕ

@@ -74,6 +74,24 @@ fn labelled(rt: &impl Abort, alloc: Global, plain: u32) -> Result<Formula, Fail>
     Ok(Formula::of(alloc, &parts)?.expect(rt, "a formula"))
 }
 
+/// The text is to be that of the isotopologue of some counts, and of none where there are none.
+fn expect_counts(
+    rt: &impl Abort,
+    alloc: Global,
+    formula: &Formula,
+    text: &[u8],
+    counts: Option<&[u32]>,
+) -> Result<(), Fail> {
+    let table = read_table(alloc, ELEMENTS)?;
+    assert!(rt; has_items(&table, formula));
+    let read = isotopologue_of(alloc, &table, formula, text)?;
+    match (read, counts) {
+        (Some(read), Some(counts)) => assert_eq!(rt; read.as_slice(), counts),
+        (read, counts) => assert!(rt; read.is_none() && counts.is_none()),
+    }
+    Ok(())
+}
+
 #[test]
 fn isotopologues_have_texts_and_masses(rt: HostRuntime) -> Result<(), Fail> {
     let alloc = rt.alloc();
@@ -150,5 +168,56 @@ fn elements_have_the_isotopes_that_occur(rt: HostRuntime) -> Result<(), Fail> {
     let oxygen: &[u64] = &[997_570_000_000, 380_000_000, 2_050_000_000];
     assert_eq!(rt; elements[1].weights(), oxygen);
     assert_eq!(rt; elements[1].atoms(), 2);
+    Ok(())
+}
+
+#[test]
+fn counts_are_read_from_texts(rt: HostRuntime) -> Result<(), Fail> {
+    let alloc = rt.alloc();
+    let all = labelled(&rt, alloc, 0)?;
+    expect_counts(&rt, alloc, &all, b"-", Some(&[]))?;
+    expect_counts(&rt, alloc, &all, b"", None)?;
+    expect_counts(&rt, alloc, &all, b"[13C]2", None)?;
+    let chain = formula(alloc, b"C12")?;
+    expect_counts(&rt, alloc, &chain, b"[12C]12", Some(&[12, 0]))?;
+    expect_counts(&rt, alloc, &chain, b"[12C]11[13C]", Some(&[11, 1]))?;
+    expect_counts(&rt, alloc, &chain, b"[13C]12", Some(&[0, 12]))?;
+    expect_counts(&rt, alloc, &chain, b"-", None)?;
+    Ok(())
+}
+
+#[test]
+fn texts_that_are_not_printed_are_of_no_isotopologue(rt: HostRuntime) -> Result<(), Fail> {
+    let alloc = rt.alloc();
+    let dioxide = formula(alloc, b"CO2")?;
+    expect_counts(
+        &rt,
+        alloc,
+        &dioxide,
+        b"[13C][16O][18O]",
+        Some(&[0, 1, 1, 0, 1]),
+    )?;
+    let texts: [&[u8]; 17] = [
+        b"",
+        b"-",
+        b"[13C][18O][16O]",
+        b"[16O]2[12C]",
+        b"[12C]1[16O]2",
+        b"[12C][16O]02",
+        b"[12C][16O]2[17O]0",
+        b"[012C][16O]2",
+        b"[12C][16O]2 ",
+        b" [12C][16O]2",
+        b"[12C][16O]3",
+        b"[12C][16O]",
+        b"[12C][16O][16O]",
+        b"[12C]2[16O]",
+        b"[14C][16O]2",
+        b"[12C][16O]99999999999999999999",
+        b"[12C][16O2",
+    ];
+    for text in texts {
+        expect_counts(&rt, alloc, &dioxide, text, None)?;
+    }
     Ok(())
 }

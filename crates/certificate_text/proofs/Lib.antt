@@ -1,0 +1,5 @@
+pub mod FaultPlaces
+pub mod ListedLines
+pub mod ListedSoFar
+pub mod ReadLines
+pub mod OneReading

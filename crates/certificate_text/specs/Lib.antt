@@ -1,0 +1,11 @@
+pub use Rattle.reader_answers.specs.Answers
+pub use Rattle.fixed_decimal.specs.DecimalTexts
+pub use Rattle.element_table.specs.Elements
+pub use Rattle.formula_text.specs.Masses
+pub use Rattle.formula_text.specs.FormulaTexts
+pub use Rattle.formula_text.specs.FormulaReader
+pub mod Certificates
+pub mod CertificateFaults
+pub mod CertificateLines
+pub mod CertificateReadings
+pub mod CertificateReader
