@@ -15,7 +15,8 @@ use Rattle.isotopologue_neighbours.specs.Moves.{neighbours_of}
 use Rattle.isotopologue_neighbours.specs.Closed.{IsClosedAbove, greatest_total}
 use Rattle.isotopologue_neighbours.proofs.ClosedBounds.{closed-Bound, reaches-by_lo}
 use Rattle.cover_claims.specs.declared.fault.ClaimFault.{ClaimFault}
-use Rattle.cover_claims.specs.Claims.{Claimed, ClaimNumbers, ClaimedMember, isotopologues_in, marked_in, member_at, is_member, exits, is_left_out, first_left_out, first_misplaced, first_fault, claim_fault}
+use Rattle.cover_claims.specs.declared.claim.ClaimNumbers.{ClaimNumbers}
+use Rattle.cover_claims.specs.Claims.{Claimed, ClaimedMember, isotopologues_in, marked_in, member_at, is_member, exits, is_left_out, first_left_out, first_misplaced, first_fault, claim_fault}
 use Rattle.cover_claims.specs.ClaimMeaning.{IsTrueClaim}
 use Rattle.cover_claims.proofs.FindLemmas.{find-none, is_member-Decides, some≢none}
 use Rattle.cover_claims.proofs.MemberOrder.{marked-distinct, not-false}

@@ -7,3 +7,11 @@ pub mod BoundedMembers
 pub mod MemberViews
 pub mod Comparison
 pub mod Search
+pub mod Surround
+pub mod OtherCounts
+pub mod FirstFound
+pub mod NeighboursByElement
+pub mod Exits
+pub mod MemberTotals
+pub mod ModeRow
+pub mod ClaimSteps

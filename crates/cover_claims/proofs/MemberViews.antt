@@ -1,12 +1,13 @@
 -- What the kept counts and enclosures say of the members.
 use Rattle.std.proofs.Common.{◌≡◌, ℕ, ◌+◌, ◌*◌, ◌<◌, ◌≤◌, Bool, List, length, take, drop, get_or, sym, ◌∙◌, ap, subst, arith}
+use Rattle.std.proofs.lemmas.List.{get_or-map}
 use Rattle.multinomial_bounds.specs.Isotopologue.{Element}
 use Rattle.multinomial_bounds.specs.declared.enclosure.Enclosure.{Enclosure}
 use Rattle.isotopologue_sets.specs.Layers.{lo_of, hi_of}
 use Rattle.cover_claims.specs.CountsInRow.{isotopes_of_all, counts_by_element}
-use Rattle.cover_claims.specs.Claims.{Claimed, isotopologues_in, member_at}
+use Rattle.cover_claims.specs.Claims.{Claimed, ClaimedMember, isotopologues_in, member_at}
 use Rattle.cover_claims.specs.MemberRows.{member_rows, AreBounded}
-use Rattle.cover_claims.proofs.RowLemmas.{length-member_rows, length-isotopologues, member_at-row, row-within, length-row}
+use Rattle.cover_claims.proofs.RowLemmas.{length-member_rows, marks-member_rows, length-isotopologues, member_at-row, row-within, length-row}
 
 module _ (es : List Element) (counts : List ℕ) (marks : List Bool) (width : ℕ) (claimed : Claimed)
     (view : ◌≡◌ {A = Claimed} (record { elements = es; members = member_rows es counts marks }) claimed)
@@ -19,6 +20,16 @@ module _ (es : List Element) (counts : List ℕ) (marks : List Bool) (width : �
         ap (λ (m : Claimed). length m.members) view,
         length-member_rows es counts marks,
       )
+
+  pub mark-within : k < length marks
+  mark-within = k_within
+
+  pub mark-is : (b : Bool) (d : ClaimedMember) → get_or marks k b ≡ (get_or claimed.members k d).marked
+  mark-is b d =
+      subst (λ (m : Claimed). get_or marks k b ≡ (get_or m.members k d).marked) view
+      (ap (λ (bs : List Bool). get_or bs k b) (sym (marks-member_rows es counts marks))
+      ∙ get_or-map (λ m. m.marked) (member_rows es counts marks) k d b
+      (rw (length-member_rows es counts marks) k_within))
 
   pub row-fits : k * width + width ≤ length counts
   row-fits = row-within k (length marks) width (length counts) k_within all

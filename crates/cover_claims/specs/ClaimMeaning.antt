@@ -2,7 +2,8 @@
 use Rattle.std.specs.Prelude.{◌≡◌, ℕ, List, length, All}
 use Rattle.multinomial_bounds.specs.Isotopologue.{Element, IsIsotopologue}
 use Rattle.isotopologue_sets.specs.Coverage.{Reaches, Bound}
-use Rattle.cover_claims.specs.Claims.{Claimed, ClaimNumbers, isotopologues_in, marked_in}
+use Rattle.cover_claims.specs.declared.claim.ClaimNumbers.{ClaimNumbers}
+use Rattle.cover_claims.specs.Claims.{Claimed, isotopologues_in, marked_in}
 
 -- Each member is an isotopologue, the marked ones have the coverage in exact weights and are as many as was said, and no
 -- set with fewer members than the bound has it.

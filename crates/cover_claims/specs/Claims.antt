@@ -10,6 +10,7 @@ use Rattle.isotopologue_sets.specs.Layers.{hi_of, lo_total, mode_of_each}
 use Rattle.isotopologue_sets.specs.Covers.{stands_before}
 use Rattle.isotopologue_neighbours.specs.Moves.{neighbours_of}
 use Rattle.isotopologue_neighbours.specs.Closed.{greatest_total}
+use Rattle.cover_claims.specs.declared.claim.ClaimNumbers.{ClaimNumbers}
 use Rattle.cover_claims.specs.declared.fault.ClaimFault.{ClaimFault}
 use Rattle.cover_claims.specs.declared.fault.ClaimFault.TheVariants.{OutOfOrder, ModeAbsent, OpenBoundary, SizeDiffers, CoverShort, BoundTooHigh}
 
@@ -22,14 +23,6 @@ pub record ClaimedMember : Type 0 where
 pub record Claimed : Type 0 where
   pub elements : List Element
   pub members : List ClaimedMember
-
--- A claim: the marked members have the coverage and are `size` in number, no set with fewer members than `bound` has
--- it, and what is no member has an upper bound of at most the threshold.
-pub record ClaimNumbers : Type 0 where
-  pub coverage : ℕ
-  pub size : ℕ
-  pub bound : ℕ
-  pub threshold : ℕ
 
 -- the isotopologues, and those that are marked
 abbrev pub isotopologues_in : List ClaimedMember → List (List (List ℕ))

@@ -6,4 +6,5 @@ pub use Rattle.isotopologue_neighbours.specs.Closed
 pub mod CountsInRow
 pub mod Claims
 pub mod MemberRows
+pub mod Surroundings
 pub mod ClaimMeaning

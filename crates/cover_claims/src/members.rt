@@ -44,11 +44,11 @@ impl Model for ClaimedMembers {
 }
 
 impl ClaimedMembers {
-    ghost use Rattle.std.specs.Prelude.{◌≡◌, ◌*◌, ◌<◌, All, IfOk, length};
+    ghost use Rattle.std.specs.Prelude.{◌≡◌, ◌*◌, ◌<◌, All, IfOk, length, slice_index_or};
     ghost use Rattle.multinomial_bounds.specs.Isotopologue.{IsIsotopologue};
     ghost use Rattle.isotopologue_sets.specs.Layers.{AreElements, lo_of, hi_of};
     ghost use Rattle.cover_claims.specs.CountsInRow.{isotopes_of_all, counts_by_element};
-    ghost use Rattle.cover_claims.specs.Claims.{isotopologues_in, member_at};
+    ghost use Rattle.cover_claims.specs.Claims.{ClaimedMember, isotopologues_in, member_at};
     ghost use Rattle.cover_claims.specs.MemberRows.{member_rows};
 
     /// The isotopologues of some elements whose counts stand end to end, one for each mark. It takes time in proportion
@@ -89,7 +89,9 @@ impl ClaimedMembers {
 
     /// The elements.
     pub(crate) fn elements(&self) -> &[ClaimElement]
-        ensures { result.now ≡ self.now.elements }
+        ensures value { result.now ≡ self.now.elements }
+        ensures within_limits { AreElements self.now.elements }
+        ensures isotopologues { All (IsIsotopologue self.now.elements) (isotopologues_in self.now.members) }
     {
         &self.elements
     }
@@ -101,6 +103,14 @@ impl ClaimedMembers {
         ensures counts { counts_by_element self.now.elements result.now ≡ member_at (isotopologues_in self.now.members) place }
     {
         row_at(&self.counts, self.isotopes, place)
+    }
+
+    /// Whether the isotopologue at a place is marked.
+    pub(crate) fn is_marked(&self, place: usize) -> bool
+        requires { place < length self.now.members }
+        ensures { (d : ClaimedMember) → result ≡ (slice_index_or self.now.members place d).marked }
+    {
+        self.marks[place]
     }
 
     /// The enclosure of the isotopologue at a place.
