@@ -27,8 +27,8 @@ use Rattle.written_items.specs.Items.{count_text, item_text, opening_bracket, cl
 use Rattle.written_items.proofs.ByteKinds.{numeral-digits, prefix_len-run}
 use Rattle.formula_text.specs.Formulas.{IsFormula, IsItem}
 use Rattle.formula_text.specs.Masses.{HasItems}
-use Rattle.formula_text.specs.PrintedText.{printed}
-use Rattle.formula_text.proofs.PrintedRows.{read_of-printed}
+use Rattle.formula_text.specs.PrintedText.{printed_text}
+use Rattle.formula_text.proofs.PrintedRows.{read_of-printed_text}
 use Rattle.certificate_text.specs.Certificates.{CertLineEntry, CertificateEntries}
 use Rattle.certificate_text.specs.CertificateLines.{cover_word, end_line, layer_word, listed_line, most_number}
 use Rattle.certificate_text.specs.CertificateReadings.{IsCertificate, SaysNumber}
@@ -122,10 +122,10 @@ count-plain n small =
     elim (n == 1) as (λ b. is_plain_text (cond b [] (decimal n)) ≡ true) [ true ↦ refl | false ↦ decimal-plain n small ]
 
 printed-plain : (f : List (Item × ℕ)) → AllByRecursion (λ p. IsItem p.0) f → AllByRecursion (λ p. p.1 ≤ 10000) f
-    → is_plain_text (printed f) ≡ true
+    → is_plain_text (printed_text f) ≡ true
 printed-plain [] are few = refl
 printed-plain (p ∷ ps) are few =
-    plain-append (item_text p.0 ++ count_text p.1) (printed ps)
+    plain-append (item_text p.0 ++ count_text p.1) (printed_text ps)
     (plain-append (item_text p.0) (count_text p.1) (item-plain p.0 are.0) (count-plain p.1 (omega (arith, few.0))))
     (printed-plain ps are.1 few.1)
 
@@ -161,14 +161,14 @@ read-written table value is known =
     (decimal-plain value.size (omega (arith, is.size)), (decimal-plain value.bound (omega (arith, is.bound)),
     (decimal-plain value.threshold (omega (arith, is.threshold)), listed-plain value.lines texts)))))) in
     let reading : IsCertificate table (lines (written_text value)) value = record {
-      formula = printed value.formula;
+      formula = printed_text value.formula;
       coverage = decimal value.coverage;
       size = decimal value.size;
       bound = decimal value.bound;
       threshold = decimal value.threshold;
       empty = [];
       spelled = spelled;
-      formula_is = read_of-printed table value.formula is.formula known;
+      formula_is = read_of-printed_text table value.formula is.formula known;
       coverage_is = number-said value.coverage is.coverage;
       size_is = number-said value.size is.size;
       bound_is = number-said value.bound is.bound;

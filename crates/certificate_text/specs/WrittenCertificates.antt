@@ -3,14 +3,14 @@ use Rattle.std.specs.Prelude.{ℕ, ◌≤◌, Bool, nat_le, List, [], ◌∷◌,
 use Rattle.std.specs.List.{flat_map, list_all}
 use Rattle.std.specs.Fmt.{decimal}
 use Rattle.formula_text.specs.Formulas.{IsFormula}
-use Rattle.formula_text.specs.PrintedText.{printed}
+use Rattle.formula_text.specs.PrintedText.{printed_text}
 use Rattle.certificate_text.specs.Certificates.{CertificateEntries}
 use Rattle.certificate_text.specs.CertificateLines.{title, formula_word, coverage_word, size_word, bound_word}
 use Rattle.certificate_text.specs.CertificateLines.{threshold_word, end_line, listed_line, most_number}
 
 -- its first six lines: the formula as it is printed, and the numbers in digits
 abbrev pub head_lines : CertificateEntries → List (List ℕ)
-head_lines value = title ∷ (formula_word ++ printed value.formula) ∷ (coverage_word ++ decimal value.coverage)
+head_lines value = title ∷ (formula_word ++ printed_text value.formula) ∷ (coverage_word ++ decimal value.coverage)
     ∷ (size_word ++ decimal value.size) ∷ (bound_word ++ decimal value.bound)
     ∷ (threshold_word ++ decimal value.threshold) ∷ []
 
