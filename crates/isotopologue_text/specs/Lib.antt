@@ -1,1 +1,2 @@
 pub mod Isotopologues
+pub mod Printed

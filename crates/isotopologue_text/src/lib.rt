@@ -8,18 +8,21 @@
 //! Contracts see the elements as those of `isotopologue_sets`, and an isotopologue as the list of its counts.
 //! The crate stands on `element_table`, `written_items`, `formula_text` and `isotopologue_sets`, and on the definitions
 //! of `multinomial_bounds`. The layer above lists the isotopologues of [`elements_of`] a formula,
-//! and asks for the text and the mass of each by [`isotopologue_text`] and [`isotopologue_mass`].
+//! and asks for the text and the mass of each by [`isotopologue_text`] and [`isotopologue_mass`], or of
+//! many by [`PrintedIsotopes`].
 #![tactic(auto)]
 
 mod counts;
 mod elements;
 mod isotopes;
 mod mass;
+mod printed;
 mod text;
 
 pub use counts::is_isotopologue;
 pub use elements::elements_of;
 pub use mass::isotopologue_mass;
+pub use printed::PrintedIsotopes;
 pub use text::isotopologue_text;
 
 #[cfg(test)]
