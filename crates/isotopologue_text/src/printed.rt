@@ -40,8 +40,8 @@ impl Model for PrintedIsotopes {
     } };
 
     ghost invariant = { λ p. All IsIsotope p.isotopes.items
-      × (length p.items.items ≡ length p.isotopes.items)
-      × (p.labelled ≤ 8000000000000000000) };
+        × (length p.items.items ≡ length p.isotopes.items)
+        × (p.labelled ≤ 8000000000000000000) };
 }
 
 impl PrintedIsotopes {

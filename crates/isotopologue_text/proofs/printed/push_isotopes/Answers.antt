@@ -51,8 +51,14 @@ loop-isotope-preserved c =
                 (All-push IsIsotope c.loop-isotope.isotopes.items isotope c.loop-isotope.invariant.are_isotopes
                 (c.requires.isotopes i none c.loop-isotope-test.true));
             as_many =
-                omega (arith, ap length now_items, ap length now, length-append c.loop-isotope.items.items (item ∷ []),
-                length-append c.loop-isotope.isotopes.items (isotope ∷ []), c.loop-isotope.invariant.as_many);
+                omega (
+                  arith,
+                  ap length now_items,
+                  ap length now,
+                  length-append c.loop-isotope.items.items (item ∷ []),
+                  length-append c.loop-isotope.isotopes.items (isotope ∷ []),
+                  c.loop-isotope.invariant.as_many,
+                );
           }
       | else-isotope-gt0 w ↦
           let passes : isotopes_that_occur (isotope ∷ []) ≡ [] =
