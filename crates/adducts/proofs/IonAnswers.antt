@@ -9,7 +9,7 @@ use Rattle.written_items.specs.declared.item.Item.{Item}
 use Rattle.formula_text.specs.Formulas.{IsFormula, IsParts, count_in, parts_of, formula_in, formula_of}
 use Rattle.formula_text.specs.FormulaReader as formula
 use Rattle.formula_text.specs.Masses.{HasItems, mass_of}
-use Rattle.formula_text.proofs.CappedCounts.{parts_of-capped}
+use Rattle.formula_text.proofs.CappedCounts.{parts_of-capped_part}
 use Rattle.mass_scaling.specs.Limits.{IsIonMass}
 use Rattle.adducts.specs.Adducts.{AdductValue, IsAdduct}
 use Rattle.adducts.specs.Ions.{AreCounts, IsIonOf, gained, has_item, has_what_is_lost, ion_counts, ion_of, ion_mass, mass_of_ion, shift_of}
@@ -36,7 +36,7 @@ finds-lost adduct formula are = finds_each adduct formula adduct.lost are
 
 -- the counts that are kept have the same formula
 capped-entries : (count : Item × ℕ → ℕ) (xs : List (Item × ℕ))
-    → map (λ p. (p.0, capped (count p))) xs ≡ map formula.capped (map (λ p. (p.0, count p)) xs)
+    → map (λ p. (p.0, capped (count p))) xs ≡ map formula.capped_part (map (λ p. (p.0, count p)) xs)
 capped-entries count [] = refl
 capped-entries count (x ∷ xs) = ap (λ l. (x.0, capped (count x)) ∷ l) (capped-entries count xs)
 
@@ -47,9 +47,9 @@ kept-formula adduct counts are =
     let others : List (Item × ℕ) = map (λ (p : Item × ℕ). (p.0, other_count adduct p)) (others_of adduct counts) in
     ap (λ l. formula_of (l ++ map (λ (p : Item × ℕ). (p.0, capped (other_count adduct p))) (others_of adduct counts)))
     (capped-entries (entry_count adduct) counts)
-    ∙ ap (λ l. formula_of (map formula.capped own ++ l)) (capped-entries (other_count adduct) (others_of adduct counts))
-    ∙ ap formula_of (sym (map-append formula.capped own others))
-    ∙ ap formula_in (parts_of-capped (own ++ others))
+    ∙ ap (λ l. formula_of (map formula.capped_part own ++ l)) (capped-entries (other_count adduct) (others_of adduct counts))
+    ∙ ap formula_of (sym (map-append formula.capped_part own others))
+    ∙ ap formula_in (parts_of-capped_part (own ++ others))
     ∙ ap formula_of (sym (counts-by_entries adduct counts are))
 
 -- the ion that is made

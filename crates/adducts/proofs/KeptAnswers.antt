@@ -16,7 +16,7 @@ use Rattle.formula_text.specs.declared.fault.PartsFault.TheVariants as limit
 use Rattle.formula_text.specs.Formulas.{sum_of, parts_of, has_many_atoms, has_many_items}
 use Rattle.formula_text.specs.FormulaFaults.{is_parts_memory}
 use Rattle.formula_text.specs.FormulaReader as formula
-use Rattle.formula_text.proofs.CappedCounts.{parts_of-capped}
+use Rattle.formula_text.proofs.CappedCounts.{parts_of-capped_part}
 use Rattle.formula_text.proofs.ReadAnswers.{unless-memory, unless-same}
 use Rattle.adducts.specs.declared.fault.AdductFault.{AdductFault}
 use Rattle.adducts.specs.declared.fault.AdductFault.TheVariants as fault
@@ -88,18 +88,18 @@ unknown-first table written =
 
 count-part : (term : WrittenTerm) (p : ℕ × WrittenPart) → p.1.item.digits ≡ None
     → part_count (kept_part term p)
-    ≡ formula.capped (item_of p.1.item, number_or_one term.coefficient * count_of_tail p.1.tail)
+    ≡ formula.capped_part (item_of p.1.item, number_or_one term.coefficient * count_of_tail p.1.tail)
 count-part term p plain =
     ap (λ (o : Option (List ℕ)). (item_of (record { symbol = p.1.item.symbol; digits = o }), capped (number_or_one term.coefficient * count_of_tail p.1.tail))) (sym plain)
 
 counts-row : (term : WrittenTerm) (at : ℕ) (row : List WrittenPart) → AllByRecursion IsPlainPart row
     → map part_count (map (kept_part term) (placed_row at row))
-    ≡ map formula.capped (map (λ part. (item_of part.item, number_or_one term.coefficient * count_of_tail part.tail)) row)
+    ≡ map formula.capped_part (map (λ part. (item_of part.item, number_or_one term.coefficient * count_of_tail part.tail)) row)
 counts-row term at [] plain = refl
 counts-row term at (part ∷ row) plain =
     ap (λ q. q ∷ map part_count (map (kept_part term) (placed_row (at + length (part_text part)) row)))
     (count-part term (at, part) plain.0.plain)
-    ∙ ap (λ l. formula.capped (item_of part.item, number_or_one term.coefficient * count_of_tail part.tail) ∷ l)
+    ∙ ap (λ l. formula.capped_part (item_of part.item, number_or_one term.coefficient * count_of_tail part.tail) ∷ l)
     (counts-row term (at + length (part_text part)) row plain.1)
 
 filter-row : (q : Bool → Bool) (term : WrittenTerm) (ps : List (ℕ × WrittenPart)) (b : Bool) → q (is_lost term) ≡ b
@@ -117,7 +117,7 @@ filter-row q term (p ∷ ps) false e =
 
 counts-terms : (q : Bool → Bool) (at : ℕ) (terms : List WrittenTerm) → AllByRecursion IsTerm terms
     → map part_count (filter (λ k. q k.is_lost) (kept_terms at terms))
-    ≡ map formula.capped (flat_map term_counts (filter (λ t. q (is_lost t)) terms))
+    ≡ map formula.capped_part (flat_map term_counts (filter (λ t. q (is_lost t)) terms))
 counts-terms q at [] are = refl
 counts-terms q at (term ∷ terms) are =
     let next = at + length (term_text term) in
@@ -129,19 +129,19 @@ counts-terms q at (term ∷ terms) are =
     ap (map part_count) (filter-append (λ (k : TermPart). q k.is_lost) (map (kept_part term) row) (kept_terms next terms))
     ∙ map-append part_count front (filter (λ (k : TermPart). q k.is_lost) (kept_terms next terms))
     ∙ elim (q (is_lost term)) as (λ b. q (is_lost term) ≡ b → map part_count front ++ mapped
-    ≡ map formula.capped (flat_map term_counts (cond b (term ∷ filter (λ t. q (is_lost t)) terms) (filter (λ t. q (is_lost t)) terms)))) [
+    ≡ map formula.capped_part (flat_map term_counts (cond b (term ∷ filter (λ t. q (is_lost t)) terms) (filter (λ t. q (is_lost t)) terms)))) [
       | true ↦ λ e.
           ap (λ l. map part_count l ++ mapped) (filter-row q term row true e)
           ∙ ap (λ l. l ++ mapped) (counts-row term (at + 1 + length term.coefficient) term.row
           (recursion_from_All IsPlainPart term.row are.0.row))
-          ∙ ap (λ l. map formula.capped (term_counts term) ++ l) rest
-          ∙ sym (map-append formula.capped (term_counts term) later)
+          ∙ ap (λ l. map formula.capped_part (term_counts term) ++ l) rest
+          ∙ sym (map-append formula.capped_part (term_counts term) later)
       | false ↦ λ e. ap (λ l. map part_count l ++ mapped) (filter-row q term row false e) ∙ rest
     ] refl
 
 counts-kept : (q : Bool → Bool) (text : List ℕ) (written : Option WrittenIon) → IsAdductOf written text
     → map part_count (filter (λ k. q k.is_lost) (kept_parts written))
-    ≡ map formula.capped (flat_map term_counts (filter (λ t. q (is_lost t)) (terms_of written)))
+    ≡ map formula.capped_part (flat_map term_counts (filter (λ t. q (is_lost t)) (terms_of written)))
 counts-kept q text None is = refl
 counts-kept q text (Some ion) is =
     counts-terms q (1 + length ion.copies + 1) ion.terms (recursion_from_All IsTerm ion.terms is.is.terms)
@@ -354,15 +354,15 @@ sums-kept : (text : List ℕ) (kept : WrittenAdduct) (is : IsKept text kept) (pl
 sums-kept text kept is plus_parts minus_parts added lost r s same_plus same_minus of_added of_lost g h =
     let written = is.written in
     let whole = read-whole text written is.read in
-    let plus_counts : added ≡ map formula.capped (added_counts written) =
+    let plus_counts : added ≡ map formula.capped_part (added_counts written) =
     of_added ∙ ap (λ (l : List TermPart). map part_count (filter (λ k. not k.is_lost) l)) (same_plus ∙ is.parts)
     ∙ counts-kept (λ b. not b) text written whole in
-    let minus_counts : lost ≡ map formula.capped (lost_counts written) =
+    let minus_counts : lost ≡ map formula.capped_part (lost_counts written) =
     of_lost ∙ ap (λ (l : List TermPart). map part_count (filter (λ k. k.is_lost) l)) (same_minus ∙ is.parts)
     ∙ counts-kept (λ b. b) text written whole in
     gives-both (parts_of (added_counts written)) (parts_of (lost_counts written)) r s
-    (subst (Gives is_parts_memory r) (ap parts_of plus_counts ∙ parts_of-capped (added_counts written)) g)
-    (subst (Gives is_parts_memory s) (ap parts_of minus_counts ∙ parts_of-capped (lost_counts written)) h)
+    (subst (Gives is_parts_memory r) (ap parts_of plus_counts ∙ parts_of-capped_part (added_counts written)) g)
+    (subst (Gives is_parts_memory s) (ap parts_of minus_counts ∙ parts_of-capped_part (lost_counts written)) h)
 
 fails-also : (b : Result (List (Item × ℕ) × List (Item × ℕ)) AdductFault) (f : AdductFault) (answer e : Result AdductValue AdductFault)
     → e ≡ (b >>= (λ _. answer)) → Gives is_memory (Err f) b → Gives is_memory (Err f) e

@@ -48,9 +48,9 @@ found_same {X} p q (x ∷ xs) d fails =
     (elim (p x) as (λ a. Goal a (q x)) [
       | true ↦ λ e f. refl
       | false ↦ elim (q x) as (Goal false) [
-          | true ↦ λ e f. absurd (false≢true (sym f ∙ e))
-          | false ↦ λ e f. found_same p q xs d f
-        ]
+        | true ↦ λ e f. absurd (false≢true (sym f ∙ e))
+        | false ↦ λ e f. found_same p q xs d f
+      ]
     ]) refl fails
 
 module _ (es : List Element) (ok : AreElements es) where

@@ -1,8 +1,9 @@
 -- The counts of isotopes, parted at the end of an element.
-use Rattle.std.proofs.Common.{◌≡◌, ℕ, zero, ◌+◌, ◌*◌, ◌<◌, ◌≤◌, Bool, true, false, cond, List, [], ◌∷◌, ◌++◌, length, get_or, take, drop, map, refl, sym, ap, ◌∙◌, arith, suc, drop-cons, add-one, eq-eqb, length-drop}
+use Rattle.std.proofs.Common.{◌≡◌, ℕ, zero, ◌+◌, ◌*◌, ◌<◌, ◌≤◌, Bool, true, false, cond, List, [], ◌∷◌, ◌++◌, length, get_or, take, drop, map, refl, sym, ap, ◌∙◌, arith, suc, drop-cons, add-one, eq-eqb, length-drop, append-nil, ltb}
 use Rattle.std.specs.Prelude.{◌==◌, sum, sum_by, filter, flat_map}
 use Rattle.std.specs.List.{zip, concat}
-use Rattle.std.proofs.lemmas.List.{length-append, length-map, take-append-drop}
+use Rattle.std.proofs.lemmas.List.{length-append, length-map, take-append-drop, take_more}
+use Rattle.std.proofs.lemmas.List.Elements.{filter-append}
 use Rattle.std.proofs.lemmas.List.Sums.{sum_by-cons, sum_by-append}
 use Rattle.std.proofs.lemmas.Grind.{flat_map-append}
 use Rattle.std.proofs.Math.Dec.{eqb-suc-zero}
@@ -11,7 +12,7 @@ use Rattle.element_table.specs.declared.element.Isotope.{Isotope}
 use Rattle.element_table.specs.Elements.{TableEntries}
 use Rattle.written_items.specs.declared.item.Item.{Item}
 use Rattle.formula_text.specs.Formulas.{atoms_of}
-use Rattle.isotopologue_text.specs.Isotopologues.{is_plain, plain_items, isotopes_of, element_in, formula_isotopes, isotope_items, isotope_item, isotope_text, counts_text, counts_mass, IsIsotopologueOf}
+use Rattle.isotopologue_text.specs.Isotopologues.{is_plain, plain_items, isotopes_that_occur, isotopes_of, element_in, formula_isotopes, isotope_items, isotope_item, isotope_text, counts_text, counts_mass, IsIsotopologueOf}
 
 -- the rest of a filtered list, where the element at its front passes
 
@@ -134,3 +135,49 @@ counts-few table formula counts h =
     ap sum (sym h.joined) ∙ elements-atoms table (plain_items formula) h.by_element h.isotopologue in
     let below = plain-atoms formula in
     omega arith
+
+-- one isotope more
+
+zip_more : {A B : Type 0} (xs : List A) (ys : List B) (i : ℕ) (d : A) (e : B) → i < length xs → i < length ys →
+    zip (take (i + 1) xs) (take (i + 1) ys) ≡ zip (take i xs) (take i ys) ++ (get_or xs i d, get_or ys i e) ∷ []
+zip_more [] ys i d e within inside = absurd (omega arith)
+zip_more (a ∷ xs) [] i d e within inside = absurd (omega arith)
+zip_more (a ∷ xs) (b ∷ ys) zero d e within inside = refl
+zip_more (a ∷ xs) (b ∷ ys) (suc i) d e within inside =
+    let more : suc i + 1 ≡ suc (i + 1) = omega arith in
+    rw more (ap (λ ps. (a, b) ∷ ps) (zip_more xs ys i d e (omega arith) (omega arith)))
+
+pub counts_text-more : (items : List Item) (counts : List ℕ) (i : ℕ) (d : Item) (e : ℕ) → i < length items →
+    i < length counts →
+    counts_text (take (i + 1) items) (take (i + 1) counts)
+    ≡ counts_text (take i items) (take i counts) ++ isotope_text (get_or items i d) (get_or counts i e)
+counts_text-more items counts i d e within inside =
+    ap (flat_map (λ (p : Item × ℕ). isotope_text p.0 p.1)) (zip_more items counts i d e within inside)
+    ∙ flat_map-append (λ (p : Item × ℕ). isotope_text p.0 p.1) (zip (take i items) (take i counts))
+    ((get_or items i d, get_or counts i e) ∷ [])
+    ∙ ap (λ t. counts_text (take i items) (take i counts) ++ t) (append-nil (isotope_text (get_or items i d) (get_or counts i e)))
+
+pub counts_mass-more : (isotopes : List Isotope) (counts : List ℕ) (i : ℕ) (d : Isotope) (e : ℕ) →
+    i < length isotopes → i < length counts →
+    counts_mass (take (i + 1) isotopes) (take (i + 1) counts)
+    ≡ counts_mass (take i isotopes) (take i counts) + get_or counts i e * (get_or isotopes i d).mass
+counts_mass-more isotopes counts i d e within inside =
+    let one : Isotope × ℕ = (get_or isotopes i d, get_or counts i e) in
+    ap (sum_by (λ (p : Isotope × ℕ). p.1 * p.0.mass)) (zip_more isotopes counts i d e within inside)
+    ∙ sum_by-append (λ (p : Isotope × ℕ). p.1 * p.0.mass) (zip (take i isotopes) (take i counts)) (one ∷ [])
+    ∙ ap (λ (n : ℕ). counts_mass (take i isotopes) (take i counts) + n)
+    (sum_by-cons (λ (p : Isotope × ℕ). p.1 * p.0.mass) one [] ∙ omega arith)
+
+pub sum-more : (counts : List ℕ) (i : ℕ) (e : ℕ) → i < length counts →
+    sum (take (i + 1) counts) ≡ sum (take i counts) + get_or counts i e
+sum-more counts i e inside =
+    ap sum (take_more counts i e inside)
+    ∙ sum_by-append (λ (x : ℕ). x) (take i counts) (get_or counts i e ∷ [])
+    ∙ ap (λ (n : ℕ). sum (take i counts) + n) (sum_by-cons (λ (x : ℕ). x) (get_or counts i e) [] ∙ omega arith)
+
+pub occur-more : (own : List Isotope) (i : ℕ) (d : Isotope) → i < length own →
+    isotopes_that_occur (take (i + 1) own)
+    ≡ isotopes_that_occur (take i own) ++ isotopes_that_occur (get_or own i d ∷ [])
+occur-more own i d within =
+    ap (filter (λ (x : Isotope). ltb 0 x.weight)) (take_more own i d within)
+    ∙ filter-append (λ (x : Isotope). ltb 0 x.weight) (take i own) (get_or own i d ∷ [])

@@ -1,2 +1,3 @@
 pub mod Isotopologues
 pub mod ReadCounts
+pub mod Printed

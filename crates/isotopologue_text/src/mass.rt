@@ -61,7 +61,7 @@ fn labelled_atom_mass(table: &Table, item: &Item) -> u64
 }
 
 /// The mass of the labelled atoms.
-fn labelled_mass(table: &Table, items: &[(Item, u32)]) -> u64
+pub(crate) fn labelled_mass(table: &Table, items: &[(Item, u32)]) -> u64
     requires known { HasItems table.now items.now }
     requires few_atoms { atoms_of items.now ≤ 20000 }
     ensures mass { result ≡ mass_of table.now (labelled_items items.now) }

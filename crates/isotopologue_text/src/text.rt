@@ -78,7 +78,7 @@ fn counts_text(
 }
 
 /// Whether an item has no label.
-pub fn has_plain(items: &[(Item, u32)]) -> bool
+pub(crate) fn has_plain(items: &[(Item, u32)]) -> bool
     ensures { result ≡ list_any (λ p. is_plain p.0) items.now }
 {
     items.iter().any(|(item, _)| item.label == 0)

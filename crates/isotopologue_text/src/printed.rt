@@ -1,0 +1,174 @@
+//! What the isotopologues of one formula are printed with, found once for all of them.
+ghost use Rattle.std.specs.Prelude.{◌≡◌, ◌++◌, ◌+◌, ◌*◌, ◌≤◌, ◌<◌, All, IfOk, OnOk, length, map, sum};
+ghost use Rattle.element_table.specs.Elements.{IsIsotope};
+ghost use Rattle.formula_text.specs.Formulas.{atoms_of};
+ghost use Rattle.formula_text.specs.Masses.{HasItems};
+ghost use Rattle.isotopologue_text.specs.Isotopologues.{isotopes_that_occur, isotope_item, isotope_items, formula_isotopes, isotope_text, counts_text, counts_mass};
+ghost use Rattle.isotopologue_text.specs.Printed.{printed_isotopes, printed_text, printed_mass};
+
+use crate::isotopes::isotopes_of;
+use crate::mass::labelled_mass;
+use crate::text::has_plain;
+use element_table::{Isotope, Table};
+use formula_text::{Formula, Item};
+use std::alloc::{AllocError, Global};
+use std::marker::Model;
+use written_items::{push_count, push_item};
+
+/// The isotopes that the isotopologues of a formula count, with the mass of its labelled atoms: what the text and the
+/// mass of each isotopologue are made of, without a look at the table.
+#[derive(Drop)]
+pub struct PrintedIsotopes {
+    items: Vec<Item>,
+    isotopes: Vec<Isotope>,
+    labelled: u64,
+    has_plain: bool,
+}
+
+impl Model for PrintedIsotopes {
+    ghost use Rattle.std.specs.Prelude.{◌≡◌, ◌≤◌, All, length};
+    ghost use Rattle.element_table.specs.Elements.{IsIsotope};
+    ghost use Rattle.isotopologue_text.specs.Printed.{Printed};
+
+    ghost Value = { Printed };
+
+    ghost view = { λ p. record {
+      items = p.items.items;
+      isotopes = p.isotopes.items;
+      labelled = p.labelled;
+      has_plain = p.has_plain;
+    } };
+
+    ghost invariant = { λ p. All IsIsotope p.isotopes.items
+        × (length p.items.items ≡ length p.isotopes.items)
+        × (p.labelled ≤ 8000000000000000000) };
+}
+
+impl PrintedIsotopes {
+    /// What the isotopologues of a formula are printed with.
+    pub fn of(
+        alloc: Global,
+        table: &Table,
+        formula: &Formula,
+    ) -> Result<PrintedIsotopes, AllocError>
+        requires { HasItems table.now formula.now }
+        ensures { IfOk result (λ p. p ≡ printed_isotopes table.now formula.now) }
+    {
+        let parts = formula.items();
+        let (items, isotopes) = gathered(alloc, table, parts)?;
+        Ok(PrintedIsotopes {
+            items,
+            isotopes,
+            labelled: labelled_mass(table, parts),
+            has_plain: has_plain(parts),
+        })
+    }
+
+    /// Appends the text of an isotopologue, as [`isotopologue_text`](crate::isotopologue_text) gives it.
+    pub fn push_text(&self, counts: &[u32], text: &mut Vec<u8>) -> Result<(), AllocError>
+        requires { length counts.now ≡ length self.now.isotopes }
+        ensures { OnOk result (text.new.items ≡ text.old.items ++ printed_text self.now counts.now) }
+    {
+        if !self.has_plain {
+            text.push(b'-')?;
+            return Ok(());
+        }
+        push_counts(text, &self.items, counts)
+    }
+
+    /// The mass of an isotopologue in 10^-12 Da, the formula's labelled atoms included.
+    pub fn mass(&self, counts: &[u32]) -> u64
+        requires agree { length counts.now ≡ length self.now.isotopes }
+        requires few_atoms { sum counts.now ≤ 20000 }
+        ensures { result ≡ printed_mass self.now counts.now }
+    {
+        mass_of(&self.isotopes, counts) + self.labelled
+    }
+}
+
+/// Appends isotopes with their counts.
+fn push_counts(text: &mut Vec<u8>, items: &[Item], counts: &[u32]) -> Result<(), AllocError>
+    requires { length counts.now ≡ length items.now }
+    ensures { OnOk result (text.new.items ≡ text.old.items ++ counts_text items.now counts.now) }
+{
+    for place in 0..items.len() {
+        push_counted(text, &items[place], counts[place])?;
+    }
+    Ok(())
+}
+
+/// Appends an isotope with its count, unless that is 0.
+fn push_counted(text: &mut Vec<u8>, item: &Item, count: u32) -> Result<(), AllocError>
+    ensures { OnOk result (text.new.items ≡ text.old.items ++ isotope_text item.now count) }
+{
+    if count == 0 {
+        return Ok(());
+    }
+    push_item(text, item)?;
+    push_count(text, count)
+}
+
+/// The sum of count times mass over isotopes.
+fn mass_of(isotopes: &[Isotope], counts: &[u32]) -> u64
+    requires agree { length counts.now ≡ length isotopes.now }
+    requires few_atoms { sum counts.now ≤ 20000 }
+    requires isotopes { All IsIsotope isotopes.now }
+    ensures mass { result ≡ counts_mass isotopes.now counts.now }
+    ensures bound { result ≤ 8000000000000000000 }
+{
+    let mut mass = 0;
+    for place in 0..isotopes.len() {
+        mass += u64::from(counts[place]) * isotopes[place].mass;
+    }
+    mass
+}
+
+/// The isotopes that occur of the items without a label, as labelled items and with their masses.
+fn gathered(
+    alloc: Global,
+    table: &Table,
+    parts: &[(Item, u32)],
+) -> Result<(Vec<Item>, Vec<Isotope>), AllocError>
+    requires { HasItems table.now parts.now }
+    ensures items { IfOk result (λ r. r.0.items ≡ isotope_items table.now parts.now) }
+    ensures isotopes { IfOk result (λ r. r.1.items ≡ formula_isotopes table.now parts.now) }
+    ensures are_isotopes { IfOk result (λ r. All IsIsotope r.1.items) }
+    ensures as_many { IfOk result (λ r. length r.0.items ≡ length r.1.items) }
+{
+    let mut items = Vec::new(alloc);
+    let mut isotopes = Vec::new(alloc);
+    for (item, _) in parts {
+        if item.label == 0 {
+            push_isotopes(item, isotopes_of(table, item), &mut items, &mut isotopes)?;
+        }
+    }
+    Ok((items, isotopes))
+}
+
+/// Appends the isotopes of an item's element that occur, as labelled items and with their masses.
+fn push_isotopes(
+    item: &Item,
+    own: &[Isotope],
+    items: &mut Vec<Item>,
+    isotopes: &mut Vec<Isotope>,
+) -> Result<(), AllocError>
+    requires isotopes { All IsIsotope own.now }
+    requires are_isotopes { All IsIsotope isotopes.old.items }
+    requires as_many { length items.old.items ≡ length isotopes.old.items }
+    ensures items { OnOk result (items.new.items
+        ≡ items.old.items ++ map (isotope_item item.now) (isotopes_that_occur own.now)) }
+    ensures isotopes { OnOk result (isotopes.new.items ≡ isotopes.old.items ++ isotopes_that_occur own.now) }
+    ensures are_isotopes { OnOk result (All IsIsotope isotopes.new.items) }
+    ensures as_many { OnOk result (length items.new.items ≡ length isotopes.new.items) }
+{
+    for isotope in own {
+        if isotope.weight > 0 {
+            items.push(Item {
+                symbol: item.symbol,
+                label: isotope.number,
+            })?;
+            isotopes.push(*isotope)?;
+        }
+    }
+    Ok(())
+}
