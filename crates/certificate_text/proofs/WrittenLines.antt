@@ -156,10 +156,22 @@ read-written table value is known =
     let few = recursion_from_All (λ p. p.1 ≤ 10000) value.formula is.formula.parts.few_of_each in
     let texts = recursion_from_All (λ (line : CertLineEntry). IsTrue (is_plain_text line.text)) value.lines is.texts in
     let spelled : lines (written_text value) ≡ written_lines value =
-    lines-ended (written_lines value)
-    (refl, (printed-plain value.formula items few, (decimal-plain value.coverage (omega (arith, is.coverage)),
-    (decimal-plain value.size (omega (arith, is.size)), (decimal-plain value.bound (omega (arith, is.bound)),
-    (decimal-plain value.threshold (omega (arith, is.threshold)), listed-plain value.lines texts)))))) in
+    lines-ended (written_lines value) (
+      refl,
+      (
+        printed-plain value.formula items few,
+        (
+          decimal-plain value.coverage (omega (arith, is.coverage)),
+          (
+            decimal-plain value.size (omega (arith, is.size)),
+            (
+              decimal-plain value.bound (omega (arith, is.bound)),
+              (decimal-plain value.threshold (omega (arith, is.threshold)), listed-plain value.lines texts),
+            ),
+          ),
+        ),
+      ),
+    ) in
     let reading : IsCertificate table (lines (written_text value)) value = record {
       formula = printed_text value.formula;
       coverage = decimal value.coverage;

@@ -1,4 +1,3 @@
-pub mod FileLines
 pub mod MetRules
 pub mod OneReading
 pub mod OneVerdict

@@ -6,8 +6,8 @@
 //! spectrometry" (2007); the numbers of the profile [`golden`] are this project's own.
 //!
 //! The crate stands on `formula_text` and `written_items` for formulas and their items, on `element_table` for elements
-//! and their valences, on `fixed_decimal` for the numbers of a rules file, on `reader_answers` for the form of its
-//! answers, and on `thiserror`. The layers above take the rules of a file by [`read_rules`], the profile by [`golden`]
+//! and their valences, on `file_lines` for the lines of a rules file, on `fixed_decimal` for its numbers, on
+//! `reader_answers` for the form of its answers, and on `thiserror`. The layers above take the rules of a file by [`read_rules`], the profile by [`golden`]
 //! or none by [`Rules::none`], and test a formula by [`Rules::holds`].
 #![tactic(auto)]
 

@@ -3,11 +3,12 @@
 ghost use Rattle.std.specs.Prelude.{◌≡◌, IfOk};
 ghost use Rattle.golden_rules.specs.Profile.{golden};
 
-use crate::lines::{cut_line, words_of};
+use crate::lines::words_of;
 use crate::read::is_known;
 use crate::rules::Rules;
 use crate::written::written_rule;
 use element_table::Table;
+use file_lines::cut_line;
 use std::alloc::{AllocError, Global};
 
 /// The lines of the profile.

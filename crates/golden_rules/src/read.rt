@@ -11,11 +11,12 @@ ghost use Rattle.golden_rules.specs.RulesReadings.{Answer, RulesReading};
 ghost use Rattle.std.specs.Str.Lines.{lines};
 
 use crate::fault::RulesFault;
-use crate::lines::{cut_line, is_skipped, words_of};
+use crate::lines::{is_skipped, words_of};
 use crate::rule::{MAX_RULES, Rule, Triple};
 use crate::rules::Rules;
 use crate::written::written_rule;
 use element_table::{Symbol, Table};
+use file_lines::cut_line;
 use std::alloc::Global;
 
 /// Reads the bytes of a rules file. LF or CR LF ends a line, and the last line may lack its end. Spaces and tabs part
