@@ -1,0 +1,2 @@
+pub mod LineMembers
+pub mod CertificateTruth

@@ -1,0 +1,10 @@
+-- The laws are lemmas on the definitions.
+use Rattle.isotopologue_text.proofs.ReadIsotopologues.{text-reading}
+use Rattle.certificate_check.proofs.CertificateTruth.{certificate-true}
+use Rattle.certificate_check.proofs.laws.judgement_laws.Goals as goal
+
+pub returns : goal.returns
+returns c = record {
+  sound = λ table certificate is form known ok accepted.
+      certificate-true table certificate ok (text-reading table certificate.formula is form known) accepted;
+}
