@@ -1,6 +1,8 @@
 -- The totals of the peaks with one more member.
-use Rattle.std.proofs.Common.{◌≡◌, ◌≢◌, ℕ, ◌+◌, ◌<◌, ◌||◌, true, false, Bool, List, [], ◌∷◌, ◌++◌, length, get_or, set, cond}
-use Rattle.std.proofs.Common.{arith, ap, ap₂, sym, subst, refl, ◌∙◌, inl, inr, get_or-set_same, get_or-set_other, length-set}
+use Rattle.std.proofs.Common.{◌≡◌, ◌≢◌, ℕ, ◌+◌, ◌<◌, ◌||◌, true, false, Bool, List, [], ◌∷◌, ◌++◌, length, get_or, set}
+use Rattle.std.proofs.Common.{cond}
+use Rattle.std.proofs.Common.{arith, ap, ap₂, sym, subst, refl, ◌∙◌, inl, inr, get_or-set_same, get_or-set_other}
+use Rattle.std.proofs.Common.{length-set}
 use Rattle.std.specs.Prelude.{Option, Some, sum_by, is_some}
 use Rattle.std.specs.List.{insert}
 use Rattle.std.proofs.lemmas.Bool.{cases_eq, cases_lt, eq-eqb, ne_eqb}
@@ -12,7 +14,8 @@ use Rattle.prediction_score.specs.declared.shares.Total.{Total}
 use Rattle.prediction_score.specs.declared.shares.Shares.{Shares}
 use Rattle.prediction_score.specs.Scores.{Match, is_at, lo_at, has_member, unmatched_lo}
 use Rattle.prediction_score.specs.PeakOrders.{IsSplit, HasKey, Each, IsRisingBy, IsTotal, AreShares}
-use Rattle.prediction_score.proofs.RisingKeys.{rising-insert, rising-set, Each-insert, HasKey-insert, HasKey-new, HasKey-set}
+use Rattle.prediction_score.proofs.RisingKeys.{rising-insert, rising-set, Each-insert, HasKey-insert, HasKey-new}
+use Rattle.prediction_score.proofs.RisingKeys.{HasKey-set}
 use Rattle.prediction_score.proofs.RisingKeys.{no_key-split}
 
 lo_at-push : (ms : List Match) (m : Match) (j : ℕ)

@@ -1,5 +1,6 @@
 -- The sums of a score, over the totals that are kept and over the places of the definition.
-use Rattle.std.proofs.Common.{◌≡◌, ℕ, zero, suc, ◌+◌, ◌*◌, ◌/◌, ◌^◌, ◌<◌, ◌≤◌, ◌↔◌, true, false, Bool, List, [], ◌∷◌, ◌++◌, length, get_or}
+use Rattle.std.proofs.Common.{◌≡◌, ℕ, zero, suc, ◌+◌, ◌*◌, ◌/◌, ◌^◌, ◌<◌, ◌≤◌, ◌↔◌, true, false, Bool, List, [], ◌∷◌}
+use Rattle.std.proofs.Common.{◌++◌, length, get_or}
 use Rattle.std.proofs.Common.{map, cond, take, arith, ap, ap₂, sym, subst, refl, ◌∙◌, inl, inr}
 use Rattle.std.specs.Prelude.{ℤ, sum_by, filter, Option, Some, None, IfSome}
 use Rattle.std.proofs.lemmas.List.{take_more, map-append}
@@ -13,7 +14,8 @@ use Rattle.prediction_score.specs.declared.predicted.Predicted.{Predicted}
 use Rattle.mass_scaling.specs.declared.tolerances.Tolerance.{Tolerance}
 use Rattle.prediction_score.specs.declared.shares.Total.{Total}
 use Rattle.prediction_score.specs.declared.shares.Shares.{Shares}
-use Rattle.prediction_score.specs.Scores.{Match, lo_at, has_member, intensity_at, observed_share, match_score, matched_places}
+use Rattle.prediction_score.specs.Scores.{Match, lo_at, has_member, intensity_at, observed_share, match_score}
+use Rattle.prediction_score.specs.Scores.{matched_places}
 use Rattle.prediction_score.specs.Scores.{matches_of, misfit_with}
 use Rattle.prediction_score.specs.Matches.{peak_of, IsPeakOf}
 use Rattle.prediction_score.specs.PeakOrders.{IsRisingBy, HasKey, Each, AreShares}
@@ -192,7 +194,8 @@ pub matches_of-more : (peaks : List (ℕ × ℕ)) (d : ℕ) (tolerance : Toleran
     ++ (peak_of peaks d tolerance (get_or members i e).mass, (get_or members i e).lo) ∷ []
 matches_of-more peaks d tolerance members i e inside =
     ap (matches_of peaks d tolerance) (take_more members i e inside)
-    ∙ map-append (λ (m : Predicted). (peak_of peaks d tolerance m.mass, m.lo)) (take i members) (get_or members i e ∷ [])
+    ∙ map-append (λ (m : Predicted). (peak_of peaks d tolerance m.mass, m.lo)) (take i members)
+    (get_or members i e ∷ [])
 
 pub inside-peaks : (peaks : List (ℕ × ℕ)) (d : ℕ) (tolerance : Tolerance) (mass : ℤ) (o : Option ℕ)
     → IfSome o (IsPeakOf peaks d tolerance mass) → IfSome o (λ p. p < length peaks)

@@ -1,6 +1,7 @@
 -- Which peak a predicted mass goes to. Masses and m/z are in 10^-12 Da. A peak is the pair of its m/z and its
 -- intensity, and its place is that in the peak list, from 0 on.
-use Rattle.std.specs.Prelude.{ℕ, ℤ, ◌<◌, ◌≤◌, ◌&&◌, ◌||◌, not, nat_le, Bool, List, length, position, slice_index_or, Option}
+use Rattle.std.specs.Prelude.{ℕ, ℤ, ◌<◌, ◌≤◌, ◌&&◌, ◌||◌, not, nat_le, Bool, List, length, position, slice_index_or}
+use Rattle.std.specs.Prelude.{Option}
 use Rattle.std.specs.List.{list_all}
 use Rattle.mass_scaling.specs.Tolerances.{Within, distance, within}
 use Rattle.mass_scaling.specs.declared.tolerances.Tolerance.{Tolerance}

@@ -1,5 +1,6 @@
 //! The peaks that got a member, and the total of the members at each.
-ghost use Rattle.std.specs.Prelude.{◌≡◌, ◌++◌, ◌∷◌, [], ◌≤◌, ◌+◌, ◌<◌, ◌^◌, ℕ, List, IfSome, IfOk, OnOk, length, sum_by};
+ghost use Rattle.std.specs.Prelude.{◌≡◌, ◌++◌, ◌∷◌, [], ◌≤◌, ◌+◌, ◌<◌, ◌^◌, ℕ, List, IfSome, IfOk, OnOk, length};
+ghost use Rattle.std.specs.Prelude.{sum_by};
 ghost use Rattle.prediction_score.specs.PeakOrders.{AreShares, IsRisingBy, IsSplit};
 ghost use Rattle.prediction_score.specs.Scores.{ArePredicted, AreTerms, Match, matches_of};
 

@@ -9,5 +9,6 @@ overflow_add-sum c =
     (λ k. omega (arith, c.type_inv.intensity k)) in
     let size : length (take c.loop-total.total-index c.args.totals.now) ≤ c.loop-total.total-index =
     omega (arith, length-take c.loop-total.total-index c.args.totals.now) in
-    let next = c.type_inv.intensity (get_or c.args.totals.now c.loop-total.total-index (record { place = 0; lo = 0 })).place in
+    let next = c.type_inv.intensity
+    (get_or c.args.totals.now c.loop-total.total-index (record { place = 0; lo = 0 })).place in
     omega (arith, c.loop-total.invariant, c.from-sum.ensures)
