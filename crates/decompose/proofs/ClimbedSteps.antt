@@ -59,7 +59,8 @@ module _ (s : Symbol) (ss : List Symbol) (w : Window) (most v : ℕ) (gs : List 
       && (follows (Some (v ∷ gs)) (v ∷ cs) && is_up_to upto (v ∷ cs)))
       (λ cs. is_within (window_less w (v * s.scaled)) (mass_of (scaled_masses_of ss) cs)
       && (follows (Some gs) cs && is_up_to below cs))
-      (λ cs. rw (within_less w (v * s.scaled) (mass_of (scaled_masses_of ss) cs) fits, after_same v gs cs, same cs) refl)
+      (λ cs.
+      rw (within_less w (v * s.scaled) (mass_of (scaled_masses_of ss) cs) fits, after_same v gs cs, same cs) refl)
       (lists_up_to (length ss) most))
 
   -- those below the count of the token, and those from the next count on
@@ -88,7 +89,8 @@ module _ (most : ℕ) (d : Level) where
       ((cs : List ℕ) → is_up_to upto ((get_or levels place d).count ∷ cs) ≡ is_up_to below cs) →
       number_after (drop (suc place) symbols) (scaled_at symbols levels w (suc place))
       (Some (drop (suc place) (counts_of levels))) most below
-      + number_from (drop place symbols) (scaled_at symbols levels w place) ((get_or levels place d).count + 1) most upto
+      + number_from (drop place symbols) (scaled_at symbols levels w place) ((get_or levels place d).count + 1) most
+      upto
       ≤ number_after (drop place symbols) (scaled_at symbols levels w place) (Some (drop place (counts_of levels))) most
       upto
   climb_at [] window w levels place upto below h sw room same = absurd h
@@ -123,7 +125,8 @@ module _ (most : ℕ) (d : Level) where
       )
 
 -- a list that begins with a greater count comes after
-greater_first : (limits : List Limit) (v : ℕ) (x : List ℕ) → 1 ≤ length limits → IsInBox (limits_from (v + 1) limits) x →
+greater_first : (limits : List Limit) (v : ℕ) (x : List ℕ) → 1 ≤ length limits →
+    IsInBox (limits_from (v + 1) limits) x →
     (cs : List ℕ) → is_up_to (Some x) (v ∷ cs) ≡ true
 greater_first [] v x some box cs = absurd (omega arith)
 greater_first (l ∷ ls) v [] some box cs = absurd box
@@ -135,7 +138,8 @@ pub found_after : (symbols : List Symbol) (window : Window) (v : ℕ) (x : List 
 found_after symbols window v x some found =
     greater_first (limits_of symbols) v x some
     (find_each (IsInBox (limits_from (v + 1) (limits_of symbols))) (is_left (masses_of symbols) window None)
-    (box_of (limits_from (v + 1) (limits_of symbols))) x (IsInBox-box (limits_from (v + 1) (limits_of symbols))) found).0
+    (box_of (limits_from (v + 1) (limits_of symbols))) x (IsInBox-box (limits_from (v + 1) (limits_of symbols)))
+    found).0
 
 -- one place higher
 pub climbed : (c1 n l j after from all old now end : ℕ) → l ≤ n → after + from ≤ all →
@@ -168,7 +172,8 @@ room_at (s ∷ ss) w (v ∷ vs) (suc place) most room =
     let less = window_less w (v.count * s.scaled) in
     room_at ss less vs place most (room_below ss w.hi less.hi most (omega arith) room.1)
 
-module _ (symbols : List Symbol) (window w : Window) (levels : List Level) (place depth most old now end : ℕ) (d : Level)
+module _ (symbols : List Symbol) (window w : Window) (levels : List Level) (place depth most old now end : ℕ)
+    (d : Level)
     (h : StandsAt symbols window levels (suc place)) (sw : IsScaledWindow symbols window w)
     (room : HasRoom symbols w.hi most) (standing : suc place ≤ depth)
     (before : now ≤ old + (most + 1) * (depth - suc place + length symbols *
@@ -183,7 +188,8 @@ module _ (symbols : List Symbol) (window w : Window) (levels : List Level) (plac
   -- no list was found at a place
   pub climb_steps_on :
       end ≤ now + (most + 1) * (1 + length (drop place symbols) *
-      number_from (drop place symbols) (scaled_at symbols levels w place) ((get_or levels place d).count + 1) most None) →
+      number_from (drop place symbols) (scaled_at symbols levels w place) ((get_or levels place d).count + 1) most
+      None) →
       end ≤ old + (most + 1) * (depth - place + length symbols * number_after (drop place symbols)
       (scaled_at symbols levels w place) (Some (drop place (counts_of levels))) most None)
   climb_steps_on here =

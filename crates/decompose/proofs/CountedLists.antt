@@ -136,7 +136,8 @@ number_from-in (s ∷ ss) w count most upto =
     ]
 
 -- a list in a scaled window has no count above the most
-pub in_room : (symbols : List Symbol) (hi most : ℕ) (cs : List ℕ) → length cs ≡ length symbols → HasRoom symbols hi most →
+pub in_room : (symbols : List Symbol) (hi most : ℕ) (cs : List ℕ) → length cs ≡ length symbols →
+    HasRoom symbols hi most →
     mass_of (scaled_masses_of symbols) cs ≤ hi →
     IsInBox (replicate (length symbols) (record { low = 0; high = most })) cs
 in_room [] hi most [] e room fits = tt

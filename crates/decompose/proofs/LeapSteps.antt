@@ -123,8 +123,8 @@ module _ (heavier lighter : Symbol) (from : ℕ) (window : Window) (width : ℕ)
   go_on : (count hi : ℕ) → Stands count hi → NoneIsWithin lighter record { lo = hi - width; hi = hi } →
       count < heavier.limit.high → heavier.mass ≤ hi → Stands (count + 1) (hi - heavier.mass)
   go_on count hi stands none room fits =
-      walk_goes_on heavier (lighter ∷ []) from window record { count = count; left = record { lo = hi - width; hi = hi } }
-      stands (one_none lighter record { lo = hi - width; hi = hi } none)
+      walk_goes_on heavier (lighter ∷ []) from window
+      record { count = count; left = record { lo = hi - width; hi = hi } } stands (one_none lighter record { lo = hi - width; hi = hi } none)
       record { count = count + 1; left = record { lo = hi - heavier.mass - width; hi = hi - heavier.mass } }
       (refl, room, fits, narrow_less width hi (hi - heavier.mass) heavier.mass refl)
 

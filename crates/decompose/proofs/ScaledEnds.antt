@@ -50,7 +50,8 @@ below_scaled masses window scaled w counts h =
       | inr ge ↦ ge
     ]
 
-module _ (masses scaled : List ℕ) (window : Window) (are : scaled ≡ scaled_of masses) (in_range : window.hi < 2 ^ 64) where
+module _ (masses scaled : List ℕ) (window : Window) (are : scaled ≡ scaled_of masses)
+    (in_range : window.hi < 2 ^ 64) where
   pub scaled_exact : (found : Option Window) → IfSome found (λ f. HoldsExactly f (IsInScaledWindow masses window)) →
       (IsNone found → HasNoScaledWindow masses window) → IfSome found (λ f. f.lo ≤ f.hi) →
       MatchOption found (HasNoScaledWindow masses window) (IsScaledWindowOf masses window)

@@ -123,7 +123,8 @@ level_narrow m window level count hi ordered v is_count is_hi =
 
 -- it stays so from one count to the next
 pub narrow_less : (width hi less m : ℕ) → less ≡ hi - m →
-    let now : Window = record { lo = less - width; hi = less } in now ≡ window_less (record { lo = hi - width; hi = hi }) m
+    let now : Window = record { lo = less - width; hi = less } in
+    now ≡ window_less (record { lo = hi - width; hi = hi }) m
 narrow_less width hi less m e =
     window_same (record { lo = less - width; hi = less }) (window_less (record { lo = hi - width; hi = hi }) m)
     (omega arith) (omega arith)

@@ -1,5 +1,6 @@
 //! The enumeration of the count lists of a window.
-ghost use Rattle.std.specs.Prelude.{◌≡◌, ◌+◌, ◌<◌, ◌≤◌, ◌↔◌, if◌then◌else◌, ℕ, List, [], ◌∷◌, length, All, AllPairs, Contains, not, IsTrue};
+ghost use Rattle.std.specs.Prelude.{◌≡◌, ◌+◌, ◌<◌, ◌≤◌, ◌↔◌, if◌then◌else◌, ℕ, List, [], ◌∷◌, length, All, AllPairs};
+ghost use Rattle.std.specs.Prelude.{Contains, not, IsTrue};
 ghost use Rattle.std.specs.Prelude.{IfOk, OnOk, IsErrOf, IsSomeAnd, Some, None, MatchBool};
 ghost use Rattle.std.specs.Bool.{OnTrue, OnFalse};
 ghost use Rattle.std.specs.List.{find};

@@ -1,5 +1,6 @@
 //! The walk over the count lists of a window, in lexicographic order.
-ghost use Rattle.std.specs.Prelude.{ℕ, ◌≡◌, ◌+◌, ◌*◌, ◌<◌, ◌≤◌, [], ◌∷◌, length, All, Some, None, MatchBool, MatchOption, IfSome};
+ghost use Rattle.std.specs.Prelude.{ℕ, ◌≡◌, ◌+◌, ◌*◌, ◌<◌, ◌≤◌, [], ◌∷◌, length, All, Some, None};
+ghost use Rattle.std.specs.Prelude.{MatchBool, MatchOption, IfSome};
 ghost use Rattle.std.specs.Bool.{OnTrue, OnFalse};
 ghost use Rattle.std.specs.List.{find};
 ghost use Rattle.decompose.specs.CountLists.{IsInBox, box_of};
@@ -242,8 +243,8 @@ pub(crate) fn find_left<L: Ledger>(
     requires some { 1 ≤ length symbols.now }
     requires stands { IfSome stands (StandsAt symbols.now window levels.old) }
     requires in_box { IfSome (given_of stands (counts_of levels.old)) (IsInBox (limits_of symbols.now)) }
-    ensures steps { MatchOption scaled (steps.new ≡ steps.old) (λ scaled. (most : ℕ) → HasRoom symbols.now scaled.hi most
-        → steps.new ≤ steps.old + length symbols.now * (most + 1) * (number_after symbols.now scaled
+    ensures steps { MatchOption scaled (steps.new ≡ steps.old) (λ scaled. (most : ℕ) →
+        HasRoom symbols.now scaled.hi most → steps.new ≤ steps.old + length symbols.now * (most + 1) * (number_after symbols.now scaled
         (given_of stands (counts_of levels.old)) most (found_list result (counts_of levels.new)) + 1)) }
     ensures finds { MatchBool result
         ((find (is_left (masses_of symbols.now) window (given_of stands (counts_of levels.old)))

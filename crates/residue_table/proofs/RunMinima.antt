@@ -30,12 +30,13 @@ pub passed_groups : (groups minima entries : List ℕ) (at run stop first highes
     ((k : ℕ) → at ≤ k → k < run * 16 → k < length entries → highest < get_or entries k 0) →
     ((group : ℕ) → run / 16 ≤ group → group < stop → highest < get_or groups group 0) → first ≤ max run (stop * 16) →
     (k : ℕ) → at ≤ k → k < first * 16 → k < length entries → highest < get_or entries k 0
-passed_groups groups minima entries at run stop first highest bounds bounds_groups runs before above is_first k from to within = elim (cases_lt k (run * 16)) [
-  | inl lt ↦ before k from lt within
-  | inr ge ↦
-      let part = bounds_groups (k / 16) (omega arith) in
-      omega (arith, above (k / 16 / 16) (omega arith) (omega arith), part, bounds k within)
-]
+passed_groups groups minima entries at run stop first highest bounds bounds_groups runs before above is_first k from
+    to within = elim (cases_lt k (run * 16)) [
+      | inl lt ↦ before k from lt within
+      | inr ge ↦
+          let part = bounds_groups (k / 16) (omega arith) in
+          omega (arith, above (k / 16 / 16) (omega arith) (omega arith), part, bounds k within)
+    ]
 
 -- no number is reached up to the end of a part that was looked through
 pub none_until : (entries : List ℕ) (start end from at first number count highest : ℕ) → start ≤ at → at ≤ first →

@@ -20,7 +20,8 @@ loop-before-preserved c =
 
 pub returns : goal.returns
 returns c =
-    let here : c.loop-before.before ≡ c.args.place = omega (arith, c.loop-before-test.false, c.loop-before.auto.before-end) in
+    let here : c.loop-before.before ≡ c.args.place =
+    omega (arith, c.loop-before-test.false, c.loop-before.auto.before-end) in
     let taken = rw here at c.loop-before.invariant in
     c.window_less.ensures
     ∙ rw taken

@@ -24,7 +24,8 @@ pub returns-in-Some-first_by_remainder : goal.returns-in-Some-first_by_remainder
 returns-in-Some-first_by_remainder c =
     let reaches = c.counts.invariant.reaches in
     let width = c.args.window.hi - c.args.window.lo in
-    let level : Level = record { count = c.counts.count; left = record { lo = c.counts.hi - width; hi = c.counts.hi } } in
+    let level : Level =
+    record { count = c.counts.count; left = record { lo = c.counts.hi - width; hi = c.counts.hi } } in
     let within = c.in-Some-first_by_remainder.ensures in
     let last = one_found c.args.lighter level.left c.in-Some-first_by_remainder.last within in
     rw (

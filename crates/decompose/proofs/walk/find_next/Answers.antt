@@ -6,7 +6,8 @@ use Rattle.decompose.specs.declared.levels.Level.{Level}
 use Rattle.decompose.proofs.FirstOfSlice.{put_rest, put_rest_back}
 use Rattle.decompose.proofs.ClimbedSteps.{climb_steps_on, climb_steps_found, climbed_all, found_after, room_at}
 use Rattle.decompose.proofs.ProbeSteps.{scaled_at_place, knows_at, no_level}
-use Rattle.decompose.proofs.WalkClimbs.{climb_finds, climb_on, stands_within, window_ordered, count_below, counts_behind}
+use Rattle.decompose.proofs.WalkClimbs.{climb_finds, climb_on, stands_within, window_ordered, count_below}
+use Rattle.decompose.proofs.WalkClimbs.{counts_behind}
 use Rattle.decompose.proofs.walk.find_next.Goals as goal
 
 pub loop-place-init : goal.loop-place-init
@@ -81,7 +82,8 @@ loop-place-preserved g c =
       unchanged = c.loop-place.invariant.unchanged;
       steps = λ most room.
           let before = rw one_more at (c.loop-place.invariant.steps most room) in
-          let here = rw (take_rest c.args.symbols.now place, c.scaled_at-rest.ensures) at c.if-find_from.ensures.steps in
+          let here =
+          rw (take_rest c.args.symbols.now place, c.scaled_at-rest.ensures) at c.if-find_from.ensures.steps in
           climb_steps_on c.args.symbols.now c.args.window c.args.scaled c.loop-place.levels place c.args.depth most
           c.args.steps.now c.loop-place.steps c.find_from.new.steps no_level stands c.requires.scaled room
           (omega (arith, c.loop-place.invariant.not_above)) before

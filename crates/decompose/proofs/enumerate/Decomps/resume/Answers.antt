@@ -89,7 +89,8 @@ pub invariant_of-result : goal.invariant_of-result
 invariant_of-result c =
     IsWalk-resumed c.args.tables.now c.tables.inside.scale c.tables.inside.residues c.args.limits.now c.args.window
     c.scaled_window_of.result (now_tables c) c.requires.one_limit_each c.requires.limits c.requires.window
-    c.scaled_window_of.ensures.loses_nothing c.scaled_window_of.ensures.exact c.args.after.now c.in_ok-symbols.symbols.items c.in_ok-levels.levels.items
+    c.scaled_window_of.ensures.loses_nothing c.scaled_window_of.ensures.exact c.args.after.now
+    c.in_ok-symbols.symbols.items c.in_ok-levels.levels.items
     c.stand_at-depth.new.levels c.in_ok-levels.levels.len c.stand_at-depth.result (now_in_box c) (now_symbols c)
     c.in_ok-levels.levels.ok.0 (now_length c) (now_counts c) (now_stands c)
 
@@ -101,7 +102,8 @@ now_resumed : (c : After-scaled_window_of) →
 now_resumed c =
     resumed_is c.args.tables.now c.tables.inside.scale c.tables.inside.residues c.args.limits.now c.args.window
     c.scaled_window_of.result (now_tables c) c.requires.one_limit_each c.requires.limits c.requires.window
-    c.scaled_window_of.ensures.loses_nothing c.scaled_window_of.ensures.exact c.args.after.now c.in_ok-symbols.symbols.items c.in_ok-levels.levels.items
+    c.scaled_window_of.ensures.loses_nothing c.scaled_window_of.ensures.exact c.args.after.now
+    c.in_ok-symbols.symbols.items c.in_ok-levels.levels.items
     c.stand_at-depth.new.levels c.in_ok-levels.levels.len c.stand_at-depth.result (now_in_box c) (now_symbols c)
     c.in_ok-levels.levels.ok.0 (now_length c) (now_counts c) (now_stands c)
 

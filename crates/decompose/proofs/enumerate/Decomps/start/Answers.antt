@@ -41,7 +41,8 @@ invariant_of-result c =
     rw (symbols_are c)
     (IsWalk-made c.args.tables.now c.tables.inside.scale c.tables.inside.residues c.args.limits.now c.args.window
     c.scaled_window_of.result (tables_ok c) c.requires.one_limit_each c.requires.limits c.requires.window
-    c.scaled_window_of.ensures.loses_nothing c.scaled_window_of.ensures.exact c.in_ok-levels.levels.items None (length_is c) tt tt)
+    c.scaled_window_of.ensures.loses_nothing c.scaled_window_of.ensures.exact c.in_ok-levels.levels.items None
+    (length_is c) tt tt)
 
 pub returns-clause-start : goal.returns-clause-start
 returns-clause-start c =
