@@ -15,3 +15,4 @@ pub mod Exits
 pub mod MemberTotals
 pub mod ModeRow
 pub mod ClaimSteps
+pub mod OpenNeighbours
