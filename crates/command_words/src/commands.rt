@@ -1,6 +1,6 @@
 //! The commands, the options that each has, and which of them are asked together.
 ghost use Rattle.std.specs.Prelude.{◌≡◌, ◌==◌, length, map, option_map, string_bytes};
-ghost use Rattle.command_words.specs.Options.{command_word, command_of, group_options, groups, is_flag, options, required_options};
+ghost use Rattle.command_words.specs.Options.{command_word, command_of, group_options, groups, options, required_options};
 
 use crate::options::OptionName;
 
@@ -9,9 +9,6 @@ use crate::options::OptionName;
 pub(crate) enum CommandName {
     Decompose,
     Envelope,
-    Rank,
-    Check,
-    Generate,
 }
 
 /// Options of which exactly one is asked.
@@ -37,38 +34,13 @@ static DECOMPOSE_OPTIONS: [OptionName; 11] = [
     OptionName::After,
 ];
 
-static ENVELOPE_OPTIONS: [OptionName; 6] = [
+static ENVELOPE_OPTIONS: [OptionName; 5] = [
     OptionName::Table,
     OptionName::Tracer,
     OptionName::Adduct,
     OptionName::Formula,
     OptionName::Coverage,
-    OptionName::Certificate,
 ];
-
-static RANK_OPTIONS: [OptionName; 13] = [
-    OptionName::Table,
-    OptionName::Tracer,
-    OptionName::Peaks,
-    OptionName::Ppm,
-    OptionName::Da,
-    OptionName::PpmCalc,
-    OptionName::Alphabet,
-    OptionName::Adduct,
-    OptionName::Rules,
-    OptionName::Coverage,
-    OptionName::Peak,
-    OptionName::Turn,
-    OptionName::Turns,
-];
-
-static CHECK_OPTIONS: [OptionName; 3] = [
-    OptionName::Table,
-    OptionName::Tracer,
-    OptionName::Certificate,
-];
-
-static GENERATE_OPTIONS: [OptionName; 2] = [OptionName::Table, OptionName::Number];
 
 static DECOMPOSE_REQUIRED: [OptionName; 2] = [OptionName::Table, OptionName::Alphabet];
 
@@ -78,20 +50,7 @@ static ENVELOPE_REQUIRED: [OptionName; 3] = [
     OptionName::Coverage,
 ];
 
-static RANK_REQUIRED: [OptionName; 4] = [
-    OptionName::Table,
-    OptionName::Peaks,
-    OptionName::Alphabet,
-    OptionName::Coverage,
-];
-
-static CHECK_REQUIRED: [OptionName; 2] = [OptionName::Table, OptionName::Certificate];
-
-static GENERATE_REQUIRED: [OptionName; 2] = [OptionName::Table, OptionName::Number];
-
 static DECOMPOSE_GROUPS: [OptionGroup; 2] = [OptionGroup::Sought, OptionGroup::Tolerance];
-
-static RANK_GROUPS: [OptionGroup; 1] = [OptionGroup::Tolerance];
 
 static SOUGHT_OPTIONS: [OptionName; 2] = [OptionName::Mass, OptionName::Peaks];
 
@@ -105,9 +64,6 @@ impl CommandName {
         match word.as_str() {
             "decompose" => Some(CommandName::Decompose),
             "envelope" => Some(CommandName::Envelope),
-            "rank" => Some(CommandName::Rank),
-            "check" => Some(CommandName::Check),
-            "generate" => Some(CommandName::Generate),
             _ => None,
         }
     }
@@ -119,9 +75,6 @@ impl CommandName {
         match self {
             CommandName::Decompose => "decompose",
             CommandName::Envelope => "envelope",
-            CommandName::Rank => "rank",
-            CommandName::Check => "check",
-            CommandName::Generate => "generate",
         }
     }
 
@@ -132,20 +85,7 @@ impl CommandName {
         match self {
             CommandName::Decompose => DECOMPOSE_OPTIONS.as_slice(),
             CommandName::Envelope => ENVELOPE_OPTIONS.as_slice(),
-            CommandName::Rank => RANK_OPTIONS.as_slice(),
-            CommandName::Check => CHECK_OPTIONS.as_slice(),
-            CommandName::Generate => GENERATE_OPTIONS.as_slice(),
         }
-    }
-
-    /// Whether an option is a flag of the command, and has no value there.
-    pub(crate) fn has_flag(self, option: OptionName) -> bool
-        ensures { result ≡ is_flag self option }
-    {
-        matches!(
-            (self, option),
-            (CommandName::Envelope, OptionName::Certificate)
-        )
     }
 
     /// Those of them that it requires.
@@ -155,9 +95,6 @@ impl CommandName {
         match self {
             CommandName::Decompose => DECOMPOSE_REQUIRED.as_slice(),
             CommandName::Envelope => ENVELOPE_REQUIRED.as_slice(),
-            CommandName::Rank => RANK_REQUIRED.as_slice(),
-            CommandName::Check => CHECK_REQUIRED.as_slice(),
-            CommandName::Generate => GENERATE_REQUIRED.as_slice(),
         }
     }
 
@@ -167,8 +104,7 @@ impl CommandName {
     {
         match self {
             CommandName::Decompose => DECOMPOSE_GROUPS.as_slice(),
-            CommandName::Rank => RANK_GROUPS.as_slice(),
-            _ => &[],
+            CommandName::Envelope => &[],
         }
     }
 }

@@ -51,45 +51,12 @@ fn shown(rt: &impl Abort, alloc: Global, request: &Request) -> String {
             adduct,
             formula,
             coverage,
-            certificate,
         } => format!(in alloc;
-            "{} {} {} {} {coverage} {certificate}",
+            "{} {} {} {} {coverage}",
             table.text(),
             text_or_dash(tracer),
             adduct.text(),
             formula.text()
-        ),
-        Request::Rank {
-            table,
-            tracer,
-            peaks,
-            tolerance,
-            alphabet,
-            adduct,
-            rules,
-            coverage,
-            peak,
-            turn,
-            turns,
-        } => format!(in alloc;
-            "{} {} {} {tolerance:?} {} {} {} {coverage} {peak:?} {turn} {turns:?}",
-            table.text(),
-            text_or_dash(tracer),
-            peaks.text(),
-            alphabet.text(),
-            adduct.text(),
-            rules.text()
-        ),
-        Request::Generate { table, number } => format!(in alloc; "{} {number}", table.text()),
-        Request::Check {
-            table,
-            tracer,
-            certificate,
-        } => format!(in alloc;
-            "{} {} {}",
-            table.text(),
-            text_or_dash(tracer),
-            certificate.text()
         ),
     };
     text.expect(rt, "a text")
@@ -131,33 +98,11 @@ fn each_option_gives_its_field_and_defaults_the_others(rt: HostRuntime) {
         ),
         (
             "envelope --coverage=0.9 --formula C6H12O6 --table t.csv",
-            "t.csv - M C6H12O6 900000000000000000 false",
+            "t.csv - M C6H12O6 900000000000000000",
         ),
         (
             "envelope --tracer r.csv --adduct [M-H]- --coverage=0.9 --formula C6H12O6 --table t.csv",
-            "t.csv r.csv [M-H]- C6H12O6 900000000000000000 false",
-        ),
-        (
-            "envelope --certificate --coverage=0.9 --formula C6H12O6 --table t.csv",
-            "t.csv - M C6H12O6 900000000000000000 true",
-        ),
-        (
-            "envelope --coverage 0.9 --formula true --table t.csv --certificate",
-            "t.csv - M true 900000000000000000 true",
-        ),
-        (
-            "rank --table t --peaks p --ppm 2 --alphabet CH --coverage 0.9",
-            "t - p Ppm { thousandths: 2000 } CH M none 900000000000000000 None 64 None",
-        ),
-        (
-            "rank --turns 0 --turn 7 --peak 3 --table t --tracer r --peaks p --da 1 --alphabet C --coverage 0.5 --rules g",
-            "t r p Da { units: 1000000000000 } C M g 500000000000000000 Some(3) 7 Some(0)",
-        ),
-        ("generate --table t --number 1", "t 1"),
-        ("check --table t --certificate c.txt", "t - c.txt"),
-        (
-            "check --certificate=true --tracer r.csv --table t",
-            "t r.csv true",
+            "t.csv r.csv [M-H]- C6H12O6 900000000000000000",
         ),
     ];
     for (words, fields) in rows {
@@ -170,15 +115,15 @@ fn a_value_may_hold_an_equals_sign_and_is_cut_at_the_first(rt: HostRuntime) {
     let rows = [
         (
             "envelope --table=a=b --formula X --coverage 0.5",
-            "a=b - M X 500000000000000000 false",
+            "a=b - M X 500000000000000000",
         ),
         (
             "envelope --table a=b --formula =X= --coverage 0.5",
-            "a=b - M =X= 500000000000000000 false",
+            "a=b - M =X= 500000000000000000",
         ),
         (
             "envelope --table==a --formula=X-y --coverage=0.5",
-            "=a - M X-y 500000000000000000 false",
+            "=a - M X-y 500000000000000000",
         ),
     ];
     for (words, fields) in rows {
@@ -191,11 +136,6 @@ fn words_that_make_no_request_are_refused(rt: HostRuntime) {
     let rows = [
         "",
         "rank",
-        "ranks --table t --peaks p --ppm 2 --alphabet CH --coverage 0.9",
-        "rank --table t --peaks p --ppm 2 --alphabet CH --coverage 0.9 --mass 1",
-        "rank --table t --peaks p --ppm 2 --alphabet CH --coverage 0.9 --limit 1",
-        "generate --table t --number -1",
-        "generate --table t --number 1 --ppm 2",
         "Decompose --table t --mass 1 --da 0 --alphabet C",
         "decompose",
         "decompose --table t --mass 1 --da 0",
@@ -228,14 +168,6 @@ fn words_that_make_no_request_are_refused(rt: HostRuntime) {
         "decompose --table t --mass 1 --mass 1 --da 0 --alphabet C",
         "decompose --table t --mass 1 --da 0 --alphabet C --mass=2",
         "decompose --mass=2 --table t --mass=1 --da 0 --alphabet C",
-        "envelope --table t --formula X --coverage 0.5 --certificate c",
-        "envelope --table t --formula X --coverage 0.5 --certificate=c",
-        "envelope --table t --formula X --coverage 0.5 --certificate=true",
-        "envelope --table t --formula X --coverage 0.5 --certificate=",
-        "envelope --table t --formula X --certificate --coverage 0.5 --certificate",
-        "envelope --table t --formula --certificate --coverage 0.5",
-        "check --table t --certificate",
-        "check --table t --certificate c --coverage 0.5",
     ];
     for row in rows {
         assert!(rt; matches!(answer(&rt, rt.alloc(), row), Err(WordsFault::Words)));
@@ -260,15 +192,6 @@ fn options_that_do_not_go_together_are_refused(rt: HostRuntime) {
         "decompose --table t --peaks p --da 0 --alphabet C --after C",
         "envelope --table t --formula X",
         "envelope --table t --coverage 0.5",
-        "check --table t",
-        "check --certificate c",
-        "rank --table t --ppm 2 --alphabet CH --coverage 0.9",
-        "rank --table t --peaks p --alphabet CH --coverage 0.9",
-        "rank --table t --peaks p --ppm 2 --da 1 --alphabet CH --coverage 0.9",
-        "rank --table t --peaks p --ppm 2 --coverage 0.9",
-        "rank --table t --peaks p --ppm 2 --alphabet CH",
-        "generate --table t",
-        "generate --number 1",
         "decompose --table t --mass 99999 --da 99999 --ppm 99999 --alphabet C",
         "decompose --table t --peaks p --da 0 --alphabet C --limit 0",
     ];
@@ -302,47 +225,12 @@ fn the_first_value_outside_its_range_is_told(rt: HostRuntime) {
         let given = answer(&rt, rt.alloc(), words.as_str());
         assert!(rt; matches!(given, Err(WordsFault::Value { option }) if option == number));
     }
-    let others = [
-        ("envelope --table t --formula X --coverage", "0", 12),
-        ("envelope --table t --formula X --coverage", "0.9999991", 12),
-        ("envelope --table t --formula X --coverage", "1", 12),
-        (
-            "envelope --table t --formula X --coverage",
-            "0.1234567890123456789",
-            12,
-        ),
-        (
-            "rank --table t --peaks p --da 0 --alphabet C --coverage 0.5 --peak",
-            "0",
-            15,
-        ),
-        (
-            "rank --table t --peaks p --da 0 --alphabet C --coverage 0.5 --peak",
-            "10001",
-            15,
-        ),
-        (
-            "rank --table t --peaks p --da 0 --alphabet C --coverage 0.5 --turn",
-            "0",
-            16,
-        ),
-        (
-            "rank --table t --peaks p --da 0 --alphabet C --coverage 0.5 --turn",
-            "1048577",
-            16,
-        ),
-        (
-            "rank --table t --peaks p --da 0 --alphabet C --coverage 0.5 --turns",
-            "1000001",
-            17,
-        ),
-        ("generate --table t --number", "2147483648", 19),
-        ("generate --table t --number", "x", 19),
-    ];
-    for (options, value, number) in others {
-        let words = format!(in rt.alloc(); "{options} {value}").expect(&rt, "words");
+    for coverage in ["0", "0.9999991", "1", "0.1234567890123456789"] {
+        let words = format!(in rt.alloc();
+            "envelope --table t --formula X --coverage {coverage}"
+        ).expect(&rt, "words");
         let given = answer(&rt, rt.alloc(), words.as_str());
-        assert!(rt; matches!(given, Err(WordsFault::Value { option }) if option == number));
+        assert!(rt; matches!(given, Err(WordsFault::Value { option: 12 })));
     }
 }
 
@@ -367,22 +255,12 @@ fn values_at_the_ends_of_their_ranges_are_read(rt: HostRuntime) {
         ),
         (
             "envelope --table t --formula X --coverage 0.999999",
-            "t - M X 999999000000000000 false",
+            "t - M X 999999000000000000",
         ),
         (
             "envelope --table t --formula X --coverage 0.000000000000000001",
-            "t - M X 1 false",
+            "t - M X 1",
         ),
-        (
-            "rank --table t --peaks p --ppm 0 --alphabet C --coverage 0.5 --peak 1 --turn 1 --turns 0",
-            "t - p Ppm { thousandths: 0 } C M none 500000000000000000 Some(1) 1 Some(0)",
-        ),
-        (
-            "rank --table t --peaks p --ppm 0 --alphabet C --coverage 0.5 --peak 10000 --turn 1048576 --turns 1000000",
-            "t - p Ppm { thousandths: 0 } C M none 500000000000000000 Some(10000) 1048576 Some(1000000)",
-        ),
-        ("generate --table t --number 0", "t 0"),
-        ("generate --table t --number 2147483647", "t 2147483647"),
     ];
     for (words, fields) in rows {
         assert!(rt; asks(&rt, rt.alloc(), words, fields));
@@ -401,7 +279,7 @@ fn many_and_long_words_are_read(rt: HostRuntime) {
     let text = format!(in rt.alloc();
         "envelope --table {name} --formula={name} --coverage 0.5"
     ).expect(&rt, "words");
-    let fields = format!(in rt.alloc(); "{name} - M {name} 500000000000000000 false").expect(
+    let fields = format!(in rt.alloc(); "{name} - M {name} 500000000000000000").expect(
         &rt, "fields",
     );
     assert!(rt; asks(&rt, rt.alloc(), text.as_str(), fields.as_str()));
@@ -424,11 +302,6 @@ fn options_are_named_as_they_are_written(rt: HostRuntime) {
         "--coverage",
         "--limit",
         "--after",
-        "--peak",
-        "--turn",
-        "--turns",
-        "--certificate",
-        "--number",
     ];
     for (place, name) in names.iter().enumerate() {
         if place < OPTION_COUNT as usize {

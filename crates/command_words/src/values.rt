@@ -11,20 +11,15 @@ use crate::fault::WordsFault;
 use crate::options::{OptionName, ValueKind};
 use crate::word::Word;
 use clap::ArgMatches;
-use clap::parser::ValueSource;
 use fixed_decimal::{Fixed, whole_within};
 use mass_scaling::Tolerance;
 use std::alloc::{AllocError, Global};
 
-/// The value of an option, if it is given. A value that `clap` puts in the place of an absent flag isn't.
+/// The value of an option, if it is given.
 fn value_of<'a>(matches: &ArgMatches<'a>, option: OptionName) -> Option<&'a str>
     ensures { option_map (λ text. text.now) result ≡ matched (found_of matches.now) option }
 {
-    let name = option.name();
-    match matches.value_source(name)? {
-        ValueSource::CommandLine => matches.get_str(name),
-        ValueSource::DefaultValue => None,
-    }
+    matches.get_str(option.name())
 }
 
 /// Whether an option is given.
@@ -80,15 +75,14 @@ pub(crate) fn number_of(matches: &ArgMatches<'_>, option: OptionName) -> Option<
     number_within(option.kind(), value_of(matches, option)?.as_bytes())
 }
 
-/// The number that an option is given which has to be, or else its default.
+/// The number that an option is given which has to be.
 pub(crate) fn required_number(
     matches: &ArgMatches<'_>,
     option: OptionName,
 ) -> Result<u64, WordsFault>
     ensures { result ≡ required_number (matched (found_of matches.now)) option }
 {
-    let number = number_of(matches, option).or(option.default_number());
-    number.ok_or(WordsFault::Words)
+    number_of(matches, option).ok_or(WordsFault::Words)
 }
 
 /// The text that an option is given, if it is.
