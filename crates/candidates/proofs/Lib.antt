@@ -8,3 +8,4 @@ pub mod NumberedItems
 pub mod HillCounts
 pub mod CandidateTests
 pub mod LineTexts
+pub mod SureLists

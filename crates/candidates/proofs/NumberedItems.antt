@@ -257,7 +257,7 @@ length-filtered test (p ∷ ps) =
       | false ↦ omega (arith, rest)
     ]
 
-few-each : (ps : List (Item × ℕ)) → atoms_of ps ≤ 10000 → list_any (λ p. ltb 10000 p.1) ps ≡ false
+pub few-each : (ps : List (Item × ℕ)) → atoms_of ps ≤ 10000 → list_any (λ p. ltb 10000 p.1) ps ≡ false
 few-each [] h = refl
 few-each (p ∷ ps) h =
     let cons = atoms_of-cons p ps in

@@ -9,7 +9,7 @@ use Rattle.decompose.specs.Masses as lists
 use Rattle.candidates.specs.declared.search.Search.{Search}
 use Rattle.candidates.specs.Grounds.{GroundValue, IsGround}
 use Rattle.candidates.specs.PeakFormulas.{is_candidate}
-use Rattle.candidates.specs.Searches.{Admits, IsInWindow, IsSearch, GoesOn, Takes, Finds, is_formed, masses_of, todo, pending, candidates_in}
+use Rattle.candidates.specs.Searches.{Admits, IsInWindow, IsSearch, IsSure, GoesOn, Takes, Finds, is_formed, masses_of, todo, pending, candidates_in}
 use Rattle.candidates.proofs.CandidateTests.{candidate-formed}
 
 -- ---- one list is taken
@@ -20,6 +20,7 @@ takes-pending state h =
       goes = record { masses = refl; limits = refl; window = refl };
       size = refl;
       room = refl;
+      sure = refl;
       is = h;
       same = refl;
       none = λ e. absurd (false≢true (sym e));
@@ -42,7 +43,7 @@ pub record Stepped (old new : Enumeration) (counts out : List ℕ) (taken : Bool
 
 pub takes-next : (state : Search) (new : Enumeration) (out : List ℕ) (taken : Bool) → state.is_pending ≡ false
     → Stepped state.decomps new state.counts out taken
-    → Takes state (record { decomps = new; counts = out; is_pending = taken; room = state.room }) taken
+    → Takes state (record { decomps = new; counts = out; is_pending = taken; room = state.room; is_sure = state.is_sure }) taken
 takes-next state new out true idle step =
     record {
       goes =
@@ -53,6 +54,7 @@ takes-next state new out true idle step =
           };
       size = step.size;
       room = refl;
+      sure = refl;
       is = refl;
       same = sym (ap (λ b. pending b state.counts ++ left state.decomps) idle ∙ step.next);
       none = λ e. absurd (false≢true (sym e));
@@ -72,6 +74,7 @@ takes-next state new out false idle step =
           };
       size = step.size;
       room = refl;
+      sure = refl;
       is = refl;
       same = ap left step.unchanged ∙ sym (ap (λ b. pending b state.counts ++ left state.decomps) idle);
       none = λ _. ap left step.unchanged ∙ none;
@@ -126,6 +129,7 @@ taken-state premises old new taken is takes =
       taken = λ h. given old.is_pending refl (sym takes.is ∙ h);
       in_box = λ h. box old.is_pending refl (sym takes.is ∙ h);
       in_window = λ h. window old.is_pending refl (sym takes.is ∙ h);
+      sure = λ h. subst (IsSure premises) (sym takes.goes.window) (is.sure (sym takes.sure ∙ h));
     }
   where
     given : (b : Bool) → old.is_pending ≡ b → taken ≡ true → new.decomps.given ≡ Some new.counts
@@ -159,8 +163,8 @@ so_far-taken premises initial old new taken so_far takes =
 -- a list that is no candidate is passed over
 pub so_far-passed : (premises : GroundValue) (initial state new : Search) → IsGround premises → SoFar premises initial state
     → state.is_pending ≡ true → is_formed premises state.counts ≡ false → length new.room.items ≡ length state.room.items
-    → new.decomps ≡ state.decomps → new.counts ≡ state.counts → new.is_pending ≡ false → SoFar premises initial new
-so_far-passed premises initial state new ground so_far h none room same_decomps same_counts idle =
+    → new.decomps ≡ state.decomps → new.counts ≡ state.counts → new.is_pending ≡ false → new.is_sure ≡ state.is_sure → SoFar premises initial new
+so_far-passed premises initial state new ground so_far h none room same_decomps same_counts idle same_sure =
     let is = so_far.is_search in
     let goes : GoesOn state new =
     record {
@@ -178,6 +182,7 @@ so_far-passed premises initial state new ground so_far h none room same_decomps 
             taken = λ e. absurd (false≢true (sym idle ∙ e));
             in_box = λ e. absurd (false≢true (sym idle ∙ e));
             in_window = λ e. absurd (false≢true (sym idle ∙ e));
+            sure = λ h. subst (IsSure premises) (sym goes.window) (is.sure (sym same_sure ∙ h));
           };
       goes = goes-both initial state new so_far.goes goes;
       same = λ mz admits.
@@ -216,8 +221,8 @@ finds-none premises mz initial old new so_far takes admits =
 pub finds-some : (premises : GroundValue) (mz : ℕ) (initial state new : Search) → IsGround premises
     → SoFar premises initial state → state.is_pending ≡ true → is_formed premises state.counts ≡ true
     → length new.room.items ≡ length state.room.items → new.decomps ≡ state.decomps → new.counts ≡ state.counts
-    → new.is_pending ≡ state.is_pending → Admits premises mz initial.decomps.window → Finds premises mz initial new true
-finds-some premises mz initial state new ground so_far h found room same_decomps same_counts same_pending admits =
+    → new.is_pending ≡ state.is_pending → new.is_sure ≡ state.is_sure → Admits premises mz initial.decomps.window → Finds premises mz initial new true
+finds-some premises mz initial state new ground so_far h found room same_decomps same_counts same_pending same_sure admits =
     let is = so_far.is_search in
     let goes : GoesOn state new =
     record {
@@ -241,6 +246,7 @@ finds-some premises mz initial state new ground so_far h found room same_decomps
             in_window = λ _.
                 subst (IsInWindow new.decomps) (sym same_counts)
                 (window-kept state new state.counts goes (is.in_window h));
+            sure = λ sure. subst (IsSure premises) (sym goes.window) (is.sure (sym same_sure ∙ sure));
           };
       goes = goes-both initial state new so_far.goes goes;
       outcome = (
@@ -252,3 +258,11 @@ finds-some premises mz initial state new ground so_far h found room same_decomps
             ∙ so_far.same mz admits,
       );
     }
+
+-- a list that is taken where each list of the window is a candidate
+pub sure-taken : (premises : GroundValue) (initial state : Search) → SoFar premises initial state → state.is_pending ≡ true
+    → state.is_sure ≡ true → is_formed premises state.counts ≡ true
+sure-taken premises initial state so_far h sure =
+    let is = so_far.is_search in
+    is.sure sure state.counts
+    (ap (λ m. is_within state.decomps.window (lists.mass_of m state.counts)) (sym is.masses) ∙ is.in_window h)

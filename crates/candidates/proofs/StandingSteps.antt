@@ -15,7 +15,7 @@ use Rattle.candidates.specs.declared.search.Search.{Search}
 use Rattle.candidates.specs.Grounds.{GroundValue, IsGround}
 use Rattle.candidates.specs.PeakFormulas.{counts_of, formula_at, limits_of, candidate_if, is_candidate, formulas_of_peak}
 use Rattle.candidates.specs.Enumeration.{CandidateEnumeration, formulas_left}
-use Rattle.candidates.specs.Searches.{IsSearch, GoesOn, Finds, Outcome, Covers, Admits, todo, pending, candidates_in, masses_of}
+use Rattle.candidates.specs.Searches.{IsSearch, IsSure, GoesOn, Finds, Outcome, Covers, Admits, todo, pending, candidates_in, masses_of}
 use Rattle.candidates.specs.Standings.{IsToken, IsStanding}
 
 filter-agree : {A : Type 0} (p q : A → Bool) (xs : List A) → ((x : A) → p x ≡ q x) → filter p xs ≡ filter q xs
@@ -151,7 +151,7 @@ standing-kept premises mz old new given b is finds =
     same false outcome = outcome.1 ∙ sym outcome.0
 
 -- after a candidate was given: the search with some other list of counts
-pub standing-given : (premises : GroundValue) (mz : ℕ) (old new : Search) (given : Option (List ℕ)) (spare : List ℕ) → IsStanding premises mz old given → Finds premises mz old new true → length spare ≡ length premises.alphabet → IsStanding premises mz (record { decomps = new.decomps; counts = spare; is_pending = false; room = new.room }) (Some new.counts)
+pub standing-given : (premises : GroundValue) (mz : ℕ) (old new : Search) (given : Option (List ℕ)) (spare : List ℕ) → IsStanding premises mz old given → Finds premises mz old new true → length spare ≡ length premises.alphabet → IsStanding premises mz (record { decomps = new.decomps; counts = spare; is_pending = false; room = new.room; is_sure = new.is_sure }) (Some new.counts)
 standing-given premises mz old new given spare is finds size =
     let it = found premises mz old new finds in
     let stands = finds.stands in
@@ -169,6 +169,7 @@ standing-given premises mz old new given spare is finds size =
             taken = λ e. absurd (false≢true e);
             in_box = λ e. absurd (false≢true e);
             in_window = λ e. absurd (false≢true e);
+            sure = stands.sure;
           };
       covers = covers;
       admits = admits-on premises mz old new finds.goes is.admits;
@@ -250,9 +251,9 @@ standing-start premises mz state given is some few stands covers admits idle sam
           ∙ ap (λ b. candidates_in premises mz (pending b state.counts ++ left state.decomps)) (sym idle);
     }
 
-pub standing-made : (premises : GroundValue) (mz : ℕ) (d : Enumeration) (counts masses : List ℕ) (limits : List Limit) (window : Window) (room : Vec (Item × ℕ) Global) (given : Option (List ℕ)) → IsGround premises → 1 ≤ mz → mz ≤ 20000000000000000 → d ≡ record { masses = masses; limits = limits; window = window; given = given } → masses ≡ masses_of premises.alphabet → limits ≡ limits_of premises.alphabet → Covers premises mz window → Admits premises mz window → length counts ≡ length premises.alphabet → length room.items ≡ length premises.alphabet → IfSome given (IsToken premises) → IsStanding premises mz (record { decomps = d; counts = counts; is_pending = false; room = room }) given
-standing-made premises mz d counts masses limits window room given is some few made of_masses of_limits covers admits size spare token =
-    standing-start premises mz (record { decomps = d; counts = counts; is_pending = false; room = room }) given is some few
+pub standing-made : (premises : GroundValue) (mz : ℕ) (d : Enumeration) (counts masses : List ℕ) (limits : List Limit) (window : Window) (room : Vec (Item × ℕ) Global) (sure : Bool) (given : Option (List ℕ)) → IsGround premises → 1 ≤ mz → mz ≤ 20000000000000000 → d ≡ record { masses = masses; limits = limits; window = window; given = given } → masses ≡ masses_of premises.alphabet → limits ≡ limits_of premises.alphabet → Covers premises mz window → Admits premises mz window → length counts ≡ length premises.alphabet → length room.items ≡ length premises.alphabet → (sure ≡ true → IsSure premises window) → IfSome given (IsToken premises) → IsStanding premises mz (record { decomps = d; counts = counts; is_pending = false; room = room; is_sure = sure }) given
+standing-made premises mz d counts masses limits window room sure given is some few made of_masses of_limits covers admits size spare all token =
+    standing-start premises mz (record { decomps = d; counts = counts; is_pending = false; room = room; is_sure = sure }) given is some few
     (record {
       masses = ap (λ (e : Enumeration). e.masses) made ∙ of_masses;
       limits = ap (λ (e : Enumeration). e.limits) made ∙ of_limits;
@@ -261,6 +262,7 @@ standing-made premises mz d counts masses limits window room given is some few m
       taken = λ e. absurd (false≢true e);
       in_box = λ e. absurd (false≢true e);
       in_window = λ e. absurd (false≢true e);
+      sure = λ h. subst (IsSure premises) (sym (ap (λ (e : Enumeration). e.window) made)) (all h);
     })
     (subst (Covers premises mz) (sym (ap (λ (e : Enumeration). e.window) made)) covers)
     (subst (Admits premises mz) (sym (ap (λ (e : Enumeration). e.window) made)) admits) refl

@@ -36,6 +36,12 @@ pending is_pending counts = if is_pending then counts ∷ [] else []
 abbrev pub todo : Search → List (List ℕ)
 todo search = pending search.is_pending search.counts ++ left search.decomps
 
+-- each count list with its mass in the window is a candidate, but for the tolerance
+abbrev pub IsSure : GroundValue → Window → Type 0
+IsSure premises window =
+    (counts : List ℕ) → is_within window (mass_of (masses_of premises.alphabet) counts) ≡ true
+    → is_formed premises counts ≡ true
+
 -- the mass of a count list is in the window
 abbrev pub IsInWindow : Enumeration → List ℕ → Type 0
 IsInWindow decomps counts = is_within decomps.window (mass_of decomps.masses counts) ≡ true
@@ -49,6 +55,7 @@ pub record IsSearch (premises : GroundValue) (search : Search) : Type 0 where
   pub taken : search.is_pending ≡ true → search.decomps.given ≡ Some search.counts
   pub in_box : search.is_pending ≡ true → IsInBox search.decomps.limits search.counts
   pub in_window : search.is_pending ≡ true → IsInWindow search.decomps search.counts
+  pub sure : search.is_sure ≡ true → IsSure premises search.decomps.window
 
 -- it goes over the same masses, limits and window
 pub record GoesOn (old new : Search) : Type 0 where
@@ -60,6 +67,7 @@ pub record Takes (old new : Search) (taken : Bool) : Type 0 where
   pub goes : GoesOn old new
   pub size : length new.counts ≡ length old.counts
   pub room : new.room ≡ old.room
+  pub sure : new.is_sure ≡ old.is_sure
   pub is : new.is_pending ≡ taken
   pub same : todo new ≡ todo old
   pub none : taken ≡ false → left new.decomps ≡ []

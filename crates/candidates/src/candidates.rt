@@ -16,7 +16,7 @@ ghost use Rattle.candidates.specs.Standings.{IsToken};
 
 use crate::grounds::Ground;
 use crate::line::push_line;
-use crate::search::{Search, counts_of};
+use crate::search::{Search, counts_of, is_sure};
 use alphabet_text::Alphabet;
 use decompose::{Counts, Decomps, Limit, ResumeFault, Window};
 use formula_text::Formula;
@@ -90,6 +90,7 @@ impl<'t> Candidates<'t> {
             counts,
             is_pending: false,
             room,
+            is_sure: is_sure(premises, window),
         };
         Ok(Candidates {
             alloc,
@@ -159,6 +160,7 @@ impl<'t> Candidates<'t> {
             counts,
             is_pending: false,
             room,
+            is_sure: is_sure(premises, window),
         };
         Ok(Candidates {
             alloc,

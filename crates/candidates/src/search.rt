@@ -2,21 +2,26 @@
 ghost use Rattle.std.specs.Prelude.{◌≡◌, ◌≤◌, ◌<◌, ◌^◌, ℕ, true, false, nat_le, IfOk, is_some, length};
 ghost use Rattle.std.specs.List.{list_all};
 ghost use Rattle.formula_text.specs.Formulas.{IsFormula, atoms_of, formula_in, within_limits};
+ghost use Rattle.mass_scaling.specs.Windows.{IsWindow};
 ghost use Rattle.formula_text.specs.Limits.{max_atoms_of_item, max_items};
 ghost use Rattle.candidates.specs.Grounds.{IsGround};
 ghost use Rattle.candidates.specs.PeakFormulas.{counts_of};
-ghost use Rattle.candidates.specs.Searches.{Admits, IsSearch, Takes, Finds, is_formed, passes, todo};
+ghost use Rattle.candidates.specs.Searches.{Admits, IsSearch, IsSure, Takes, Finds, is_formed, passes, todo};
 
 use crate::grounds::Ground;
 use adducts::has_ion;
 use alphabet_text::Alphabet;
 use decompose::{Counts, Decomps};
-use formula_text::{MAX_ATOMS, MAX_ATOMS_OF_ITEM};
+use formula_text::{MAX_ATOMS, MAX_ATOMS_OF_ITEM, MAX_ITEMS};
+use mass_scaling::Window;
 use outside_ports::Steps;
 use std::alloc::{AllocError, Global};
 use std::mem;
 use std::sync::ledger::Ledger;
 use written_items::Item;
+
+/// Half a Da in 10^-12 Da. No atom weighs less.
+const HALF_DALTON: u64 = 500_000_000_000;
 
 /// Where the search for candidates stands.
 #[derive(Drop)]
@@ -29,6 +34,8 @@ pub(crate) struct Search<'t> {
     pub is_pending: bool,
     /// Room for a formula, which is used again.
     pub room: Vec<(Item, u32)>,
+    /// Whether each count list that is taken is a candidate, and needs no test.
+    pub is_sure: bool,
 }
 
 impl<'t> Search<'t> {
@@ -47,10 +54,14 @@ impl<'t> Search<'t> {
     /// left. Takes no memory.
     pub fn find<L: Ledger>(&mut self, premises: &Ground, steps: &mut Steps<L>) -> bool
         requires search { IsSearch premises.now self.old }
+        requires premises { IsGround premises.now }
         ensures { (mz : ℕ) → Admits premises.now mz self.old.decomps.window
             → Finds premises.now mz self.old self.new result }
     {
         'lists: while self.take(steps) {
+            if self.is_sure {
+                return true;
+            }
             if is_formed(premises, self.counts.counts(), &mut self.room) {
                 return true;
             }
@@ -67,6 +78,27 @@ impl<'t> Search<'t> {
         self.is_pending = false;
         mem::swap(&mut self.counts, last);
     }
+}
+
+/// Whether no mass of a window leaves room for more atoms than a formula or its ion may have, nothing is lost, and there
+/// are no rules. Then each count list of the window is a candidate.
+pub(crate) fn is_sure(premises: &Ground, window: Window) -> bool
+    requires { IsWindow window }
+    ensures { result ≡ true → IsSure premises.now window }
+{
+    let adduct = premises.adduct();
+    let added = adduct.added();
+    if !premises.rules().rules().is_empty() {
+        return false;
+    }
+    if !adduct.lost().items().is_empty() {
+        return false;
+    }
+    let copied = u64::from(adduct.copies()) * (window.hi / HALF_DALTON);
+    if copied + u64::from(added.atoms()) > u64::from(MAX_ATOMS_OF_ITEM) {
+        return false;
+    }
+    premises.alphabet().items().len() + added.items().len() <= MAX_ITEMS
 }
 
 /// Whether the formula of a count list is one within the limits, has an ion and meets the rules. The formula is

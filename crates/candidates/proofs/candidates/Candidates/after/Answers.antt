@@ -17,11 +17,11 @@ invariant_of-result c =
     let same = c.alphabet-alphabet.ensures.alphabet in (
       box-length premises.alphabet c.args.last c.requires.token.in_box,
       standing-made premises c.args.mz c.in-Ok.decomps c.in_ok-counts.counts c.tables.result.now
-          c.limits-limits.result.now c.peak_window-window.result c.in_ok-room.room (Some c.args.last)
+          c.limits-limits.result.now c.peak_window-window.result c.in_ok-room.room c.is_sure.result (Some c.args.last)
           c.alphabet-alphabet.ensures.premises c.requires.some_mz c.requires.few_mz c.in-Ok.ensures.resumed
           c.tables.ensures.tables (c.limits-limits.ensures.limits ∙ ap limits_of same)
           c.peak_window-window.ensures.covers c.peak_window-window.ensures.admits
           (count-entries premises.alphabet c.alphabet-alphabet.result.now c.items.result.now c.in_ok-counts.counts same
           c.items.ensures.items c.in_ok-counts.ensures)
-          (c.in_ok-room.ensures ∙ ap length same) c.requires.token,
+          (c.in_ok-room.ensures ∙ ap length same) c.is_sure.ensures c.requires.token,
     )

@@ -17,11 +17,11 @@ invariant_of-result c =
       count-entries premises.alphabet c.alphabet-alphabet.result.now c.items-size.result.now c.in_ok-last.last same
           c.items-size.ensures.items c.in_ok-last.ensures,
       standing-made premises c.args.mz c.in_ok-decomps.decomps c.in_ok-counts.counts c.tables.result.now
-          c.limits.result.now c.peak_window-window.result c.in_ok-room.room None c.alphabet-alphabet.ensures.premises
+          c.limits.result.now c.peak_window-window.result c.in_ok-room.room c.is_sure.result None c.alphabet-alphabet.ensures.premises
           c.requires.some_mz c.requires.few_mz c.in_ok-decomps.ensures.start c.tables.ensures.tables
           (c.limits.ensures.limits ∙ ap limits_of same)
           c.peak_window-window.ensures.covers c.peak_window-window.ensures.admits
           (count-entries premises.alphabet c.alphabet-alphabet.result.now c.items-size.result.now c.in_ok-counts.counts
           same c.items-size.ensures.items c.in_ok-counts.ensures)
-          (c.in_ok-room.ensures ∙ ap length same) tt,
+          (c.in_ok-room.ensures ∙ ap length same) c.is_sure.ensures tt,
     )
