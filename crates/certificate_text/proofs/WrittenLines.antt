@@ -1,31 +1,28 @@
 -- What is written of a certificate is read as that certificate.
-use Rattle.std.proofs.Common.{◌≡◌, ℕ, ◌+◌, ◌^◌, ◌<◌, ◌≤◌, ◌==◌, ◌&&◌, suc, Bool, true, false, cond, List, [], ◌∷◌, ◌++◌}
-use Rattle.std.proofs.Common.{length, take, drop, map, Option, Some, None, Ok, refl, sym, ◌∙◌, ap, subst, arith}
+use Rattle.std.proofs.Common.{◌≡◌, ℕ, ◌+◌, ◌^◌, ◌<◌, ◌≤◌, ◌==◌, suc, true, false, cond, List, [], ◌∷◌, ◌++◌}
+use Rattle.std.proofs.Common.{length, take, drop, map, Some, Ok, refl, sym, ◌∙◌, ap, arith}
 use Rattle.std.proofs.Common.{append_assoc}
 use Rattle.std.proofs.Common.{length-append, get_or, zero, ◌-◌}
-use Rattle.std.specs.Prelude.{All, IsTrue, nat_le, nat_lt, not, position}
+use Rattle.std.specs.Prelude.{IsTrue, nat_le, nat_lt, not, position}
 use Rattle.std.specs.List.{AllByRecursion, flat_map, list_all, prefix_len}
 use Rattle.std.specs.Char.{is_ascii_digit}
 use Rattle.std.specs.Fmt.{decimal}
 use Rattle.std.specs.Str.Lines.{lines, strip_carriage_return}
-use Rattle.std.specs.Str.Parse.{digits_value}
 use Rattle.std.proofs.lemmas.Bool.{and_from, and_parts, false≢true, leb-true, lt-ltb, ne_eqb}
 use Rattle.std.proofs.lemmas.Bool.Decides.{nat_tests}
 use Rattle.std.proofs.lemmas.Fmt.{decimal_is_IsNumeral}
-use Rattle.std.proofs.lemmas.Grind.{common_steps}
 use Rattle.std.proofs.lemmas.List.Elements.{All-nil, recursion_from_All}
 use Rattle.std.proofs.lemmas.List.Folds.{list_all-append}
 use Rattle.std.proofs.Math.Seq.{take-append_seam, drop-append_seam}
 use Rattle.element_table.specs.Elements.{TableEntries}
 use Rattle.element_table.specs.SymbolText.{is_symbol}
 use Rattle.file_lines.proofs.FileLines.{lines-cut}
-use Rattle.fixed_decimal.specs.Decimal.{whole_number}
 use Rattle.fixed_decimal.specs.DecimalTexts.{number_of}
 use Rattle.fixed_decimal.proofs.NumbersInRange.{digits-whole_number}
 use Rattle.written_items.specs.declared.item.Item.{Item}
 use Rattle.written_items.specs.Items.{count_text, item_text, opening_bracket, closing_bracket}
 use Rattle.written_items.proofs.ByteKinds.{numeral-digits, prefix_len-run}
-use Rattle.formula_text.specs.Formulas.{IsFormula, IsItem}
+use Rattle.formula_text.specs.Formulas.{IsItem}
 use Rattle.formula_text.specs.Masses.{HasItems}
 use Rattle.formula_text.specs.PrintedText.{printed_text}
 use Rattle.formula_text.proofs.PrintedRows.{read_of-printed_text}
