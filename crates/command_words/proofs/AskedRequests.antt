@@ -11,8 +11,8 @@ use Rattle.clap.specs.declared.parser.matches.Found.{Found}
 use Rattle.mass_scaling.specs.declared.tolerances.Tolerance.{Tolerance}
 use Rattle.mass_scaling.specs.declared.tolerances.Tolerance.TheVariants as tolerance
 use Rattle.command_words.specs.ClapCommands.{given_in}
-use Rattle.command_words.specs.Options.{Bytes, command_of, default_text, groups, kind, name, number_within, options, required_options, is_flag}
-use Rattle.command_words.specs.Requests.{Asks, IsReading, IsRequestOf, Values, ValuesAsk, first_outside, go_together, has_companion, has_one, has_value_outside, is_outside, number_of, text_of}
+use Rattle.command_words.specs.Options.{Bytes, command_of, default_text, groups, kind, name, number_within, optional_groups, options, required_options, is_flag}
+use Rattle.command_words.specs.Requests.{Asks, IsReading, IsRequestOf, Values, ValuesAsk, first_outside, go_together, has_companion, has_one, has_one_at_most, has_value_outside, is_outside, number_of, text_of}
 use Rattle.command_words.specs.Uses.{Argument, Use, arguments, value_of, value_in}
 use Rattle.command_words.specs.WordReading.{answer_by, decompose_request, envelope_request, fields_request, is_memory, is_readable, matched, request_of, uses_of, values_request, check_request, rank_request, generate_request}
 use Rattle.command_words.specs.declared.commands.CommandName.{CommandName}
@@ -87,8 +87,11 @@ module _ (values : Values) where
 
   pub companions : (command : CommandName) → AreGood command
       → AllByRecursion (λ option. has_companion values option ≡ true) (options command)
-  companions command good = all_pass (has_companion values) (options command)
-      (and_parts _ _ (and_parts _ _ good.together).1).1
+  companions command good =
+      let groups_on = (and_parts (list_all (λ option. is_some (values option)) (required_options command)) _ good.together).1 in
+      let optional_on = (and_parts (list_all (has_one values) (groups command)) _ groups_on).1 in
+      all_pass (has_companion values) (options command)
+      (and_parts (list_all (has_one_at_most values) (optional_groups command)) _ optional_on).1
 
   pub insides : (command : CommandName) → AreGood command
       → AllByRecursion (λ option. has_value_outside values option ≡ false) (options command)
@@ -136,8 +139,8 @@ module _ (values : Values) where
         number_given option.PpmCalc (λ _. refl) inside.1.1.1.1.1.0,
       ) (ones command.Decompose good).1.0) in (
         Decompose table.0 (number_of values option.Mass) (values option.Peaks) allowed.0 alphabet.0 adduct.0 rules.0
-            (number_of values option.Limit) (values option.After),
-        (table.1, refl, refl, allowed.1, alphabet.1, adduct.1, rules.1, refl, refl),
+            (number_of values option.Limit) (values option.After) (is_some (values option.Json)),
+        (table.1, refl, refl, allowed.1, alphabet.1, adduct.1, rules.1, refl, refl, refl),
       )
 
   -- the number of a given option
@@ -153,8 +156,9 @@ module _ (values : Values) where
       let adduct = text_or option.Adduct _ refl in
       let formula = text_given option.Formula texts.1.0 in
       let coverage = number_there option.Coverage (λ _. refl) inside.1.1.1.1.0 texts.1.1.0 in (
-        Envelope table.0 (values option.Tracer) adduct.0 formula.0 coverage.0 (is_some (values option.Certificate)),
-        (table.1, refl, adduct.1, formula.1, coverage.1, refl),
+        Envelope table.0 (values option.Tracer) adduct.0 formula.0 coverage.0 (is_some (values option.Certificate))
+            (is_some (values option.Json)),
+        (table.1, refl, adduct.1, formula.1, coverage.1, refl, refl),
       )
 
   rank_values : AreGood command.Rank → (request : Request) × IsRequestOf command.Rank values request
@@ -174,8 +178,8 @@ module _ (values : Values) where
         number_given option.PpmCalc (λ _. refl) inside.1.1.1.1.1.0,
       ) (ones command.Rank good).0) in (
         Rank table.0 (values option.Tracer) peaks.0 allowed.0 alphabet.0 adduct.0 rules.0 coverage.0
-            (number_of values option.Peak) turn.0 (number_of values option.Turns),
-        (table.1, refl, peaks.1, allowed.1, alphabet.1, adduct.1, rules.1, coverage.1, refl, turn.1, refl),
+            (number_of values option.Peak) turn.0 (number_of values option.Turns) (is_some (values option.Json)),
+        (table.1, refl, peaks.1, allowed.1, alphabet.1, adduct.1, rules.1, coverage.1, refl, turn.1, refl, refl),
       )
 
   check_values : AreGood command.Check → (request : Request) × IsRequestOf command.Check values request
@@ -204,22 +208,24 @@ module _ (values : Values) where
   fields_are : (command : CommandName) (request : Request) → IsRequestOf command values request
       → fields_request command values ≡ Ok request
   unfolding decompose_request envelope_request rank_request check_request generate_request
-  fields_are command.Decompose (Decompose table mass peaks allowed alphabet adduct rules limit after) is =
+  fields_are command.Decompose (Decompose table mass peaks allowed alphabet adduct rules limit after json) is =
       λ i. or_fault Words (is.0 i) >>= λ table. or_fault Words (is.3 i) >>= λ allowed. or_fault Words (is.4 i)
       >>= λ alphabet. or_fault Words (is.5 i) >>= λ adduct. or_fault Words (is.6 i) >>= λ rules.
-      Ok (Decompose table (sym is.1 i) (sym is.2 i) allowed alphabet adduct rules (sym is.7 i) (sym is.8 i))
+      Ok (Decompose table (sym is.1 i) (sym is.2 i) allowed alphabet adduct rules (sym is.7 i) (sym is.8 i)
+      (sym is.9 i))
   fields_are command.Decompose _ is = absurd is
-  fields_are command.Envelope (Envelope table tracer adduct formula coverage certificate) is =
+  fields_are command.Envelope (Envelope table tracer adduct formula coverage certificate json) is =
       λ i. or_fault Words (is.0 i) >>= λ table. or_fault Words (is.2 i) >>= λ adduct. or_fault Words (is.3 i)
       >>= λ formula. or_fault Words (option_or (is.4 i) None) >>= λ coverage.
-      Ok (Envelope table (sym is.1 i) adduct formula coverage (sym is.5 i))
+      Ok (Envelope table (sym is.1 i) adduct formula coverage (sym is.5 i) (sym is.6 i))
   fields_are command.Envelope _ is = absurd is
-  fields_are command.Rank (Rank table tracer peaks allowed alphabet adduct rules coverage peak turn turns) is =
+  fields_are command.Rank (Rank table tracer peaks allowed alphabet adduct rules coverage peak turn turns json) is =
       λ i. or_fault Words (is.0 i) >>= λ table. or_fault Words (is.2 i) >>= λ peaks. or_fault Words (is.3 i)
       >>= λ allowed. or_fault Words (is.4 i) >>= λ alphabet. or_fault Words (is.5 i) >>= λ adduct.
       or_fault Words (is.6 i) >>= λ rules. or_fault Words (option_or (is.7 i) None) >>= λ coverage.
       or_fault Words (is.9 i) >>= λ turn.
-      Ok (Rank table (sym is.1 i) peaks allowed alphabet adduct rules coverage (sym is.8 i) turn (sym is.10 i))
+      Ok (Rank table (sym is.1 i) peaks allowed alphabet adduct rules coverage (sym is.8 i) turn (sym is.10 i)
+      (sym is.11 i))
   fields_are command.Rank _ is = absurd is
   fields_are command.Check (Check table tracer certificate) is = λ i. or_fault Words (is.0 i)
       >>= λ table. or_fault Words (is.2 i) >>= λ certificate. Ok (Check table (sym is.1 i) certificate)
@@ -279,6 +285,7 @@ plain_name option.Turn = refl
 plain_name option.Turns = refl
 plain_name option.Certificate = refl
 plain_name option.Number = refl
+plain_name option.Json = refl
 
 plain_each : (command : CommandName) (options : List OptionName)
     → AllByRecursion (λ (argument : Argument). is_plain argument.0 ≡ true)

@@ -96,7 +96,7 @@ go_with_mass None None (Some after) e f = absurd (true≢false (sym f))
 module _ (values : Values) where
   decompose_ranges : AreGood values command.Decompose → (request : Request)
       → IsRequestOf command.Decompose values request → HasRanges request
-  decompose_ranges good (Decompose table mass peaks allowed alphabet adduct rules limit after) is =
+  decompose_ranges good (Decompose table mass peaks allowed alphabet adduct rules limit after json) is =
       let inside = insides values command.Decompose good in
       let pairs = companions values command.Decompose good in
       let mass_given = ap is_some is.1 ∙ number_given values option.Mass (λ _. refl) inside.1.0 in
@@ -113,7 +113,7 @@ module _ (values : Values) where
   decompose_ranges good _ is = absurd is
 
   rank_ranges : (request : Request) → IsRequestOf command.Rank values request → HasRanges request
-  rank_ranges (Rank table tracer peaks allowed alphabet adduct rules coverage peak turn turns) is =
+  rank_ranges (Rank table tracer peaks allowed alphabet adduct rules coverage peak turn turns json) is =
       let shares = coverages values coverage is.7 in
       let allowances = default_range MIN_TURN MAX_TURN DEFAULT_TURN (values option.Turn) (omega arith, omega arith)
       turn is.9 in (
@@ -130,7 +130,7 @@ module _ (values : Values) where
   request_ranges : (command : CommandName) → AreGood values command → (request : Request)
       → IsRequestOf command values request → HasRanges request
   request_ranges command.Decompose good request is = decompose_ranges good request is
-  request_ranges command.Envelope good (Envelope table tracer adduct formula coverage certificate) is =
+  request_ranges command.Envelope good (Envelope table tracer adduct formula coverage certificate json) is =
       coverages values coverage is.4
   request_ranges command.Envelope good _ is = absurd is
   request_ranges command.Rank good request is = rank_ranges request is
@@ -160,6 +160,7 @@ numbers_of_table option.Turn = (omega arith, omega arith)
 numbers_of_table option.Turns = (omega arith, omega arith)
 numbers_of_table option.Certificate = (omega arith, omega arith)
 numbers_of_table option.Number = (omega arith, omega arith)
+numbers_of_table option.Json = (omega arith, omega arith)
 
 abbrev is_ok_answer : Result Request WordsFault → Bool
 is_ok_answer (Ok request) = true

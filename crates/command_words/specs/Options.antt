@@ -7,9 +7,9 @@ use Rattle.mass_scaling.specs.declared.limits.TheConstants.{MAX_MZ, MAX_DA, MAX_
 use Rattle.command_words.specs.declared.commands.CommandName.{CommandName}
 use Rattle.command_words.specs.declared.commands.CommandName.TheVariants.{Decompose, Envelope, Rank, Check, Generate}
 use Rattle.command_words.specs.declared.commands.OptionGroup.{OptionGroup}
-use Rattle.command_words.specs.declared.commands.OptionGroup.TheVariants.{Sought, Tolerance}
+use Rattle.command_words.specs.declared.commands.OptionGroup.TheVariants.{Sought, Tolerance, Form}
 use Rattle.command_words.specs.declared.options.OptionName.{OptionName}
-use Rattle.command_words.specs.declared.options.OptionName.TheVariants.{Table, Tracer, Mass, Peaks, Ppm, Da, PpmCalc, Alphabet, Adduct, Rules, Formula, Coverage, Limit, After, Peak, Turn, Turns, Certificate, Number}
+use Rattle.command_words.specs.declared.options.OptionName.TheVariants.{Table, Tracer, Mass, Peaks, Ppm, Da, PpmCalc, Alphabet, Adduct, Rules, Formula, Coverage, Limit, After, Peak, Turn, Turns, Certificate, Number, Json}
 use Rattle.command_words.specs.declared.options.ValueKind.{ValueKind}
 use Rattle.command_words.specs.declared.options.ValueKind.TheVariants as value
 use Rattle.command_words.specs.declared.options.TheConstants.{MIN_MZ, MIN_COVERAGE, MAX_COVERAGE, MIN_LIMIT, MAX_LIMIT, MIN_PEAK, MAX_PEAK, MIN_TURN, MAX_TURN, DEFAULT_TURN, MAX_TURNS, MAX_NUMBER}
@@ -22,7 +22,7 @@ Bytes = List ℕ
 abbrev pub option_table : List OptionName
 option_table = Table ∷ Tracer ∷ Mass ∷ Peaks ∷ Ppm ∷ Da ∷ PpmCalc ∷ Alphabet ∷ Adduct
     ∷ Rules ∷ Formula ∷ Coverage ∷ Limit ∷ After ∷ Peak ∷ Turn ∷ Turns ∷ Certificate
-    ∷ Number ∷ []
+    ∷ Number ∷ Json ∷ []
 
 -- the name of an option, without its hyphens
 abbrev pub name : OptionName → Bytes
@@ -45,6 +45,7 @@ name Turn = codes "turn"
 name Turns = codes "turns"
 name Certificate = codes "certificate"
 name Number = codes "number"
+name Json = codes "json"
 
 -- what the value of an option is: a text, or a number in its range, in units of 10^-12 (Da), 10^-3 (ppm), 10^-18 (a
 -- coverage) or 1
@@ -68,6 +69,7 @@ kind Turn = value.Whole MIN_TURN MAX_TURN
 kind Turns = value.Whole 0 MAX_TURNS
 kind Certificate = value.Text
 kind Number = value.Whole 0 MAX_NUMBER
+kind Json = value.Text
 
 -- the place of an option in the table, from 1
 abbrev pub number : OptionName → ℕ
@@ -90,6 +92,7 @@ number Turn = 16
 number Turns = 17
 number Certificate = 18
 number Number = 19
+number Json = 20
 
 -- the text that stands for an option which isn't given, if the option has one
 abbrev pub default_text : OptionName → Option Bytes
@@ -143,16 +146,17 @@ command_of first = find (λ command. bytes_eq first (command_word command)) comm
 
 -- the options that a command has, in the order of the table
 abbrev pub options : CommandName → List OptionName
-options Decompose = Table ∷ Mass ∷ Peaks ∷ Ppm ∷ Da ∷ PpmCalc ∷ Alphabet ∷ Adduct ∷ Rules ∷ Limit ∷ After ∷ []
-options Envelope = Table ∷ Tracer ∷ Adduct ∷ Formula ∷ Coverage ∷ Certificate ∷ []
+options Decompose = Table ∷ Mass ∷ Peaks ∷ Ppm ∷ Da ∷ PpmCalc ∷ Alphabet ∷ Adduct ∷ Rules ∷ Limit ∷ After ∷ Json ∷ []
+options Envelope = Table ∷ Tracer ∷ Adduct ∷ Formula ∷ Coverage ∷ Certificate ∷ Json ∷ []
 options Rank = Table ∷ Tracer ∷ Peaks ∷ Ppm ∷ Da ∷ PpmCalc ∷ Alphabet ∷ Adduct ∷ Rules ∷ Coverage ∷ Peak ∷ Turn
-    ∷ Turns ∷ []
+    ∷ Turns ∷ Json ∷ []
 options Check = Table ∷ Tracer ∷ Certificate ∷ []
 options Generate = Table ∷ Number ∷ []
 
 -- an option is a flag of a command, and has no value there
 abbrev pub is_flag : CommandName → OptionName → Bool
 is_flag Envelope Certificate = true
+is_flag _ Json = true
 is_flag _ _ = false
 
 -- those of them that it requires
@@ -169,10 +173,16 @@ groups Decompose = Sought ∷ Tolerance ∷ []
 groups Rank = Tolerance ∷ []
 groups _ = []
 
--- the options of a group: what is looked for, and how far from it
+-- the groups of them of which it asks at most one
+abbrev pub optional_groups : CommandName → List OptionGroup
+optional_groups Envelope = Form ∷ []
+optional_groups _ = []
+
+-- the options of a group: what is looked for, how far from it, and what is printed of it
 abbrev pub group_options : OptionGroup → List OptionName
 group_options Sought = Mass ∷ Peaks ∷ []
 group_options Tolerance = Ppm ∷ Da ∷ PpmCalc ∷ []
+group_options Form = Certificate ∷ Json ∷ []
 
 -- the option of this number as it is written, and nothing for a number that the table hasn't
 abbrev pub option_word : ℕ → Bytes

@@ -84,12 +84,13 @@ decompose_request values = required_text values option.Table >>= λ table. or_fa
     >>= λ allowed. required_text values option.Alphabet >>= λ alphabet. required_text values option.Adduct
     >>= λ adduct. required_text values option.Rules >>= λ rules.
     Ok (Decompose table (number_of values option.Mass) (values option.Peaks) allowed alphabet adduct rules
-    (number_of values option.Limit) (values option.After))
+    (number_of values option.Limit) (values option.After) (is_some (values option.Json)))
 
 unfoldable pub envelope_request : Values → Result Request WordsFault
 envelope_request values = required_text values option.Table >>= λ table. required_text values option.Adduct
     >>= λ adduct. required_text values option.Formula >>= λ formula. required_number values option.Coverage
-    >>= λ coverage. Ok (Envelope table (values option.Tracer) adduct formula coverage (is_some (values option.Certificate)))
+    >>= λ coverage. Ok (Envelope table (values option.Tracer) adduct formula coverage (is_some (values option.Certificate))
+    (is_some (values option.Json)))
 
 unfoldable pub rank_request : Values → Result Request WordsFault
 rank_request values = required_text values option.Table >>= λ table. required_text values option.Peaks
@@ -97,7 +98,7 @@ rank_request values = required_text values option.Table >>= λ table. required_t
     >>= λ alphabet. required_text values option.Adduct >>= λ adduct. required_text values option.Rules
     >>= λ rules. required_number values option.Coverage >>= λ coverage. required_number values option.Turn
     >>= λ turn. Ok (Rank table (values option.Tracer) peaks allowed alphabet adduct rules coverage
-    (number_of values option.Peak) turn (number_of values option.Turns))
+    (number_of values option.Peak) turn (number_of values option.Turns) (is_some (values option.Json)))
 
 unfoldable pub check_request : Values → Result Request WordsFault
 check_request values = required_text values option.Table >>= λ table. required_text values option.Certificate

@@ -1,6 +1,6 @@
 //! The commands, the options that each has, and which of them are asked together.
 ghost use Rattle.std.specs.Prelude.{◌≡◌, ◌==◌, length, map, option_map, string_bytes};
-ghost use Rattle.command_words.specs.Options.{command_word, command_of, group_options, groups, is_flag, options, required_options};
+ghost use Rattle.command_words.specs.Options.{command_word, command_of, group_options, groups, is_flag, optional_groups, options, required_options};
 
 use crate::options::OptionName;
 
@@ -14,16 +14,18 @@ pub(crate) enum CommandName {
     Generate,
 }
 
-/// Options of which exactly one is asked.
+/// Options of which only one is asked.
 #[derive(Clone, Copy, Debug, PartialEq, Eq)]
 pub(crate) enum OptionGroup {
     /// What is looked for: one mass, or the peaks of a file.
     Sought,
     /// How far from it.
     Tolerance,
+    /// What is printed in the place of the report as text.
+    Form,
 }
 
-static DECOMPOSE_OPTIONS: [OptionName; 11] = [
+static DECOMPOSE_OPTIONS: [OptionName; 12] = [
     OptionName::Table,
     OptionName::Mass,
     OptionName::Peaks,
@@ -35,18 +37,20 @@ static DECOMPOSE_OPTIONS: [OptionName; 11] = [
     OptionName::Rules,
     OptionName::Limit,
     OptionName::After,
+    OptionName::Json,
 ];
 
-static ENVELOPE_OPTIONS: [OptionName; 6] = [
+static ENVELOPE_OPTIONS: [OptionName; 7] = [
     OptionName::Table,
     OptionName::Tracer,
     OptionName::Adduct,
     OptionName::Formula,
     OptionName::Coverage,
     OptionName::Certificate,
+    OptionName::Json,
 ];
 
-static RANK_OPTIONS: [OptionName; 13] = [
+static RANK_OPTIONS: [OptionName; 14] = [
     OptionName::Table,
     OptionName::Tracer,
     OptionName::Peaks,
@@ -60,6 +64,7 @@ static RANK_OPTIONS: [OptionName; 13] = [
     OptionName::Peak,
     OptionName::Turn,
     OptionName::Turns,
+    OptionName::Json,
 ];
 
 static CHECK_OPTIONS: [OptionName; 3] = [
@@ -93,9 +98,13 @@ static DECOMPOSE_GROUPS: [OptionGroup; 2] = [OptionGroup::Sought, OptionGroup::T
 
 static RANK_GROUPS: [OptionGroup; 1] = [OptionGroup::Tolerance];
 
+static ENVELOPE_OPTIONAL_GROUPS: [OptionGroup; 1] = [OptionGroup::Form];
+
 static SOUGHT_OPTIONS: [OptionName; 2] = [OptionName::Mass, OptionName::Peaks];
 
 static TOLERANCE_OPTIONS: [OptionName; 3] = [OptionName::Ppm, OptionName::Da, OptionName::PpmCalc];
+
+static FORM_OPTIONS: [OptionName; 2] = [OptionName::Certificate, OptionName::Json];
 
 impl CommandName {
     /// The command that a first word names.
@@ -144,7 +153,7 @@ impl CommandName {
     {
         matches!(
             (self, option),
-            (CommandName::Envelope, OptionName::Certificate)
+            (CommandName::Envelope, OptionName::Certificate) | (_, OptionName::Json)
         )
     }
 
@@ -171,6 +180,16 @@ impl CommandName {
             _ => &[],
         }
     }
+
+    /// The groups of them of which it asks at most one.
+    pub(crate) fn optional_groups(self) -> &'static [OptionGroup]
+        ensures { result.now ≡ optional_groups self }
+    {
+        match self {
+            CommandName::Envelope => ENVELOPE_OPTIONAL_GROUPS.as_slice(),
+            _ => &[],
+        }
+    }
 }
 
 impl OptionGroup {
@@ -181,6 +200,7 @@ impl OptionGroup {
         match self {
             OptionGroup::Sought => SOUGHT_OPTIONS.as_slice(),
             OptionGroup::Tolerance => TOLERANCE_OPTIONS.as_slice(),
+            OptionGroup::Form => FORM_OPTIONS.as_slice(),
         }
     }
 }

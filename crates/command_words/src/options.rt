@@ -41,7 +41,7 @@ pub const MAX_TURNS: u64 = 1_000_000;
 pub const MAX_NUMBER: u64 = 2_147_483_647;
 
 /// How many options there are; they are numbered from 1.
-pub const OPTION_COUNT: u32 = 19;
+pub const OPTION_COUNT: u32 = 20;
 
 /// The options, in the order of their table.
 #[derive(Clone, Copy, Debug, PartialEq, Eq)]
@@ -65,6 +65,7 @@ pub(crate) enum OptionName {
     Turns,
     Certificate,
     Number,
+    Json,
 }
 
 /// What the value of an option is, with the least and the greatest number.
@@ -165,6 +166,7 @@ const OPTIONS: [OptionName; OPTION_COUNT as usize] = [
     OptionName::Turns,
     OptionName::Certificate,
     OptionName::Number,
+    OptionName::Json,
 ];
 
 impl OptionName {
@@ -194,6 +196,7 @@ impl OptionName {
                 OptionRow::of("--certificate", "certificate", ValueKind::Text)
             }
             OptionName::Number => OptionRow::of("--number", "number", NUMBER),
+            OptionName::Json => OptionRow::of("--json", "json", ValueKind::Text),
         }
     }
 

@@ -21,11 +21,11 @@ use clap::ArgMatches;
 use std::alloc::Global;
 
 /// Reads the words behind the program's name as a request. The first names a command; the others give each option
-/// of it that they name its value, as `--name value` or `--name=value`, and flags as `--name`, in any order. The answer is
-/// [`WordsFault::Words`] where they don't, or where the options that they give don't go together, and else
+/// of it that they name its value, as `--name value` or `--name=value`, and flags as `--name`, in any order. The
+/// answer is [`WordsFault::Words`] where they don't, or where the options that they give don't go together, and else
 /// [`WordsFault::Value`] of the first option in the order of the table whose value is outside its range. Options go
-/// together where each is given that the command requires, exactly one of those of which one is asked, and none
-/// without the one that it goes with.
+/// together where each is given that the command requires, exactly one of those of which one is asked, at most one of
+/// those that exclude each other, and none without the one that it goes with.
 pub fn request_of(alloc: Global, words: &Vec<String>) -> Result<Request, WordsFault>
     // The answer, unless it is want of memory.
     ensures gives { Gives is_memory result (request_of (map string_bytes words.now.items)) }
@@ -104,6 +104,7 @@ fn decompose_request(alloc: Global, matches: &ArgMatches<'_>) -> Result<Request,
         rules: required_text(alloc, matches, OptionName::Rules)?,
         limit: number_of(matches, OptionName::Limit),
         after: given_text(alloc, matches, OptionName::After)?,
+        json: is_given(matches, OptionName::Json),
     })
 }
 
@@ -119,6 +120,7 @@ fn envelope_request(alloc: Global, matches: &ArgMatches<'_>) -> Result<Request, 
         formula: required_text(alloc, matches, OptionName::Formula)?,
         coverage: required_number(matches, OptionName::Coverage)?,
         certificate: is_given(matches, OptionName::Certificate),
+        json: is_given(matches, OptionName::Json),
     })
 }
 
@@ -139,6 +141,7 @@ fn rank_request(alloc: Global, matches: &ArgMatches<'_>) -> Result<Request, Word
         peak: number_of(matches, OptionName::Peak),
         turn: required_number(matches, OptionName::Turn)?,
         turns: number_of(matches, OptionName::Turns),
+        json: is_given(matches, OptionName::Json),
     })
 }
 

@@ -30,6 +30,8 @@ pub enum Request {
         limit: Option<u64>,
         /// The text of the formula behind which the candidates begin. It is given only beside a mass.
         after: Option<Word>,
+        /// Whether the report is asked for as JSON.
+        json: bool,
     },
     /// The likeliest isotopologues of one formula.
     Envelope {
@@ -46,6 +48,8 @@ pub enum Request {
         coverage: u64,
         /// Whether the certificate is asked for.
         certificate: bool,
+        /// Whether the report is asked for as JSON; the certificate isn't then.
+        json: bool,
     },
     /// The formulas of the peaks of a file, the likeliest first.
     Rank {
@@ -76,6 +80,8 @@ pub enum Request {
         /// After how many turns the report is printed, at most [`MAX_TURNS`](crate::MAX_TURNS); once all peaks are
         /// done where it is absent.
         turns: Option<u64>,
+        /// Whether the report is asked for as JSON.
+        json: bool,
     },
     /// Whether a certificate is right.
     Check {
