@@ -1,6 +1,6 @@
 -- The cover of a formula, as it is printed. Bounds of probabilities, thresholds and coverages are in units of 10^-18,
 -- masses in 10^-12 Da.
-use Rattle.std.specs.Prelude.{ℕ, List, length, map, Result, Ok, Err, if◌then◌else◌}
+use Rattle.std.specs.Prelude.{◌≡◌, ◌≤◌, ℕ, List, All, length, map, sum, Result, Ok, Err, if◌then◌else◌}
 use Rattle.std.specs.List.{concat}
 use Rattle.multinomial_bounds.specs.Isotopologue.{Element}
 use Rattle.isotopologue_sets.specs.Layers.{has_too_many, last_threshold_for}
@@ -10,6 +10,7 @@ use Rattle.reaching_layer.specs.declared.fault.CoverFault.{CoverFault}
 use Rattle.reaching_layer.specs.declared.fault.CoverFault.TheVariants.{TooMany}
 use Rattle.element_table.specs.Elements.{TableEntries}
 use Rattle.written_items.specs.declared.item.Item.{Item}
+use Rattle.isotopologue_text.specs.Printed.{Printed}
 use Rattle.isotopologue_text.specs.Isotopologues.{formula_elements, isotopologue_text_of, isotopologue_mass_of}
 
 -- an isotopologue as it is printed: the counts of its isotopes, one element after another, its text, its mass, and
@@ -31,11 +32,17 @@ pub record CoverEntries : Type 0 where
   pub bound : ℕ
   pub layer : List MemberEntry
 
--- a cover by its numbers, without texts and masses
+-- a cover by its numbers, without texts and masses, and what its members are printed with
 pub record NumberedEntries : Type 0 where
   pub formula : List (Item × ℕ)
   pub coverage : ℕ
   pub numbers : CoverNumbers
+  pub printed : Printed
+
+-- the members' counts are as many as the isotopes they are printed with, and few
+abbrev pub AreCountsOf : Printed → List Member → Type 0
+AreCountsOf printed members =
+    All (λ m. (length (concat m.counts) ≡ length printed.isotopes) × (sum (concat m.counts) ≤ 20000)) members
 
 -- a member with its text and its mass
 unfoldable pub member_entry : TableEntries → List (Item × ℕ) → Member → MemberEntry

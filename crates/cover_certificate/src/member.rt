@@ -2,7 +2,7 @@
 
 use element_table::Table;
 use formula_text::Formula;
-use isotopologue_text::{isotopologue_mass, isotopologue_text};
+use isotopologue_text::{PrintedIsotopes, isotopologue_mass, isotopologue_text};
 use multinomial_bounds::Enclosure;
 use reaching_layer::ReachingLayer;
 use std::alloc::{AllocError, Global};
@@ -65,7 +65,8 @@ impl CoverMember {
     }
 }
 
-ghost use Rattle.std.specs.Prelude.{◌≡◌, ◌<◌, All, IfOk, length, map, slice_index_or};
+ghost use Rattle.std.specs.Prelude.{◌≡◌, ◌<◌, ◌≤◌, All, IfOk, length, map, slice_index_or, sum};
+ghost use Rattle.isotopologue_text.specs.Printed.{printed_text, printed_mass};
 ghost use Rattle.isotopologue_sets.specs.Covers.{Member};
 ghost use Rattle.multinomial_bounds.specs.Isotopologue.{IsIsotopologue};
 ghost use Rattle.formula_text.specs.Masses.{HasItems};
@@ -113,5 +114,33 @@ pub(crate) fn member_at(
         text: isotopologue_text(alloc, table, formula, counts)?,
         mass: isotopologue_mass(table, formula, counts),
         enclosure: layer.enclosure(place),
+    })
+}
+
+/// How many bytes a text gets room for at first.
+const TEXT_ROOM: usize = 96;
+
+/// A member of these counts and this enclosure, printed with the isotopes of its formula.
+pub(crate) fn printed_member(
+    alloc: Global,
+    isotopes: &PrintedIsotopes,
+    counts: &[u32],
+    enclosure: Enclosure,
+) -> Result<CoverMember, AllocError>
+    requires agree { length counts.now ≡ length isotopes.now.isotopes }
+    requires few_atoms { sum counts.now ≤ 20000 }
+    ensures counts { IfOk result (λ m. m.counts ≡ counts.now) }
+    ensures text { IfOk result (λ m. m.text ≡ printed_text isotopes.now counts.now) }
+    ensures mass { IfOk result (λ m. m.mass ≡ printed_mass isotopes.now counts.now) }
+    ensures lo { IfOk result (λ m. m.lo ≡ enclosure.lo) }
+    ensures hi { IfOk result (λ m. m.hi ≡ enclosure.hi) }
+{
+    let mut text = Vec::with_capacity(alloc, TEXT_ROOM)?;
+    isotopes.push_text(counts, &mut text)?;
+    Ok(CoverMember {
+        counts: counts.to_vec(alloc)?,
+        text,
+        mass: isotopes.mass(counts),
+        enclosure,
     })
 }

@@ -1,9 +1,9 @@
 //! The cover of a formula by its numbers, whose members get their texts one at a time.
 
-use crate::member::{CoverMember, member_at};
+use crate::member::{CoverMember, printed_member};
 use element_table::Table;
 use formula_text::Formula;
-use isotopologue_text::elements_of;
+use isotopologue_text::{PrintedIsotopes, elements_of};
 use reaching_layer::{CoverFault, ReachingLayer, reaching_layer};
 use std::alloc::{AllocError, Global};
 use std::marker::Model;
@@ -15,22 +15,29 @@ pub struct NumberedCover {
     formula: Formula,
     coverage: u64,
     numbers: ReachingLayer,
+    printed: PrintedIsotopes,
 }
 
 impl Model for NumberedCover {
-    ghost use Rattle.cover_certificate.specs.FormulaCovers.{NumberedEntries};
+    ghost use Rattle.cover_certificate.specs.FormulaCovers.{NumberedEntries, AreCountsOf};
 
     ghost Value = { NumberedEntries };
 
-    ghost view = { λ c. record { formula = c.formula; coverage = c.coverage; numbers = c.numbers } };
+    ghost view = { λ c. record {
+      formula = c.formula;
+      coverage = c.coverage;
+      numbers = c.numbers;
+      printed = c.printed;
+    } };
+
+    ghost invariant = { λ c. AreCountsOf c.printed c.numbers.members };
 }
 
 impl NumberedCover {
-    ghost use Rattle.std.specs.Prelude.{◌≡◌, ◌<◌, ◌≤◌, All, IfOk, length, slice_index_or};
-    ghost use Rattle.multinomial_bounds.specs.Isotopologue.{IsIsotopologue};
+    ghost use Rattle.std.specs.Prelude.{◌≡◌, ◌<◌, ◌≤◌, IfOk, length, slice_index_or};
     ghost use Rattle.isotopologue_sets.specs.Covers.{Member};
-    ghost use Rattle.formula_text.specs.Masses.{HasItems};
-    ghost use Rattle.isotopologue_text.specs.Isotopologues.{formula_elements};
+    ghost use Rattle.element_table.specs.Elements.{TableEntries};
+    ghost use Rattle.isotopologue_text.specs.Printed.{printed_isotopes};
     ghost use Rattle.cover_certificate.specs.FormulaCovers.{member_entry};
 
     /// How many members the cover has, of those of the layer the first ones.
@@ -76,21 +83,16 @@ impl NumberedCover {
         self.numbers.len()
     }
 
-    /// The member at a place of the reaching layer in the cover's order, 0 first, with its text and mass. The table is
-    /// that which the cover was made with. It fails only for want of memory.
-    pub fn member(
-        &self,
-        alloc: Global,
-        table: &Table,
-        place: usize,
-    ) -> Result<CoverMember, AllocError>
-        requires known { HasItems table.now self.now.formula }
-        requires isotopologues { All (λ m. IsIsotopologue (formula_elements table.now self.now.formula) m.counts) self.now.numbers.members }
-        requires within { place < length self.now.numbers.members }
-        ensures { IfOk result (λ m. (d : Member) →
-            m ≡ member_entry table.now self.now.formula (slice_index_or self.now.numbers.members place d)) }
+    /// The member at a place of the reaching layer in the cover's order, 0 first, with its text and mass. It fails only
+    /// for want of memory.
+    pub fn member(&self, alloc: Global, place: usize) -> Result<CoverMember, AllocError>
+        requires { place < length self.now.numbers.members }
+        ensures { IfOk result (λ m. (table : TableEntries) (d : Member) →
+            self.now.printed ≡ printed_isotopes table self.now.formula →
+            m ≡ member_entry table self.now.formula (slice_index_or self.now.numbers.members place d)) }
     {
-        member_at(alloc, table, &self.formula, &self.numbers, place)
+        let counts = self.numbers.counts(place);
+        printed_member(alloc, &self.printed, counts, self.numbers.enclosure(place))
     }
 }
 
@@ -102,6 +104,7 @@ ghost use Rattle.isotopologue_sets.specs.Covers.{IsCover};
 ghost use Rattle.reaching_layer.specs.LayerAnswers.{is_memory};
 ghost use Rattle.formula_text.specs.Masses.{HasItems};
 ghost use Rattle.isotopologue_text.specs.Isotopologues.{formula_elements};
+ghost use Rattle.isotopologue_text.specs.Printed.{printed_isotopes};
 ghost use Rattle.cover_certificate.specs.FormulaCovers.{cover_unless_too_many, with_texts};
 
 /// The cover of a formula for a wanted coverage in units of 10^-18, from 1 to 999,999 * 10^12, without the texts of its
@@ -120,6 +123,7 @@ pub fn numbered_cover_of(
 
     // What follows of the returned cover, by the exact weights of its members.
     ensures formula { IfOk result (λ c. c.formula ≡ formula.now) }
+    ensures printed { IfOk result (λ c. c.printed ≡ printed_isotopes table.now formula.now) }
     ensures isotopologues { IfOk result (λ c.
         All (λ m. IsIsotopologue (formula_elements table.now formula.now) m.counts) c.numbers.members) }
     ensures claims { IfOk result (λ c.
@@ -134,5 +138,6 @@ pub fn numbered_cover_of(
         formula: formula.clone()?,
         coverage,
         numbers,
+        printed: PrintedIsotopes::of(alloc, table, formula)?,
     })
 }

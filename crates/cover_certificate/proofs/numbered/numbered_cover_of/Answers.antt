@@ -27,6 +27,9 @@ returns-clause-cover c =
     (cover_answer c.args.table.now c.args.formula.now c.args.coverage c.in_ok-numbers.numbers
     (subst P (elements at) c.in_ok-numbers.ensures.cover))
 
+pub invariant_of-result : goal.invariant_of-result
+invariant_of-result c = ?
+
 pub returns-clause-isotopologues : goal.returns-clause-isotopologues
 returns-clause-isotopologues c =
     let at = (goal.at.returns-clause-isotopologues c).In_ok-numbers in
