@@ -9,3 +9,6 @@ mod lines;
 pub use judgement::{Judgement, Text};
 pub use judging::check;
 pub use laws::judgement_laws;
+
+#[cfg(test)]
+mod tests;
