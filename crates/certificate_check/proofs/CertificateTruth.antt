@@ -55,7 +55,8 @@ otherwise false x y refused held = held
 
 pub certificate-true : (table : TableEntries) (certificate : CertificateEntries) →
     AreElements (formula_elements table certificate.formula) →
-    ((text : List ℕ) → IsOfText table certificate.formula text (counts_of_text table certificate.formula text)) →
+    All (λ l. IsOfText table certificate.formula l.text (counts_of_text table certificate.formula l.text))
+    certificate.lines →
     judgement table certificate ≡ said.Accepted → CertificateMeans table certificate
 unfolding judgement
 certificate-true table certificate ok meaning accepted =

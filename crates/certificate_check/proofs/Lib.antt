@@ -1,2 +1,3 @@
 pub mod LineMembers
 pub mod CertificateTruth
+pub mod JudgementSteps

@@ -1,4 +1,5 @@
 -- The laws are lemmas on the definitions.
+use Rattle.std.proofs.Common.{get_or}
 use Rattle.isotopologue_text.proofs.ReadIsotopologues.{text-reading}
 use Rattle.certificate_check.proofs.CertificateTruth.{certificate-true}
 use Rattle.certificate_check.proofs.laws.judgement_laws.Goals as goal
@@ -6,5 +7,6 @@ use Rattle.certificate_check.proofs.laws.judgement_laws.Goals as goal
 pub returns : goal.returns
 returns c = record {
   sound = λ table certificate is form known ok accepted.
-      certificate-true table certificate ok (text-reading table certificate.formula is form known) accepted;
+      certificate-true table certificate ok
+      (λ k d within. text-reading table certificate.formula is form known (get_or certificate.lines k d).text) accepted;
 }

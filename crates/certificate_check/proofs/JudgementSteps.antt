@@ -1,0 +1,44 @@
+-- The tests of a certificate, one after another.
+use Rattle.std.proofs.Common.{◌≡◌, ℕ, ◌+◌, ◌<◌, ◌≤◌, Bool, true, false, cond, eqb, ltb, length, Some, None, refl, sym, ◌∙◌, ap, arith, ⊎_elim, inl, inr}
+use Rattle.std.specs.Prelude.{◌⊎◌, ◌||◌}
+use Rattle.std.proofs.lemmas.Bool.{eq-eqb, ne_eqb, lt-ltb, le-ltb}
+use Rattle.isotopologue_sets.specs.Layers.{max_isotopologues}
+use Rattle.isotopologue_sets.specs.Coverage.{max_coverage}
+use Rattle.element_table.specs.Elements.{TableEntries}
+use Rattle.certificate_text.specs.Certificates.{CertificateEntries}
+use Rattle.cover_claims.specs.Claims.{claim_fault}
+use Rattle.certificate_check.specs.declared.judgement.Judgement.{Judgement}
+use Rattle.certificate_check.specs.declared.judgement.Judgement.TheVariants.{CoverageRange, TooManyMembers, NotOfFormula}
+use Rattle.certificate_check.specs.Judgements.{line_of, first_unnamed, claimed_by, numbers_of, judgement_of, judgement_of_lines, judgement}
+
+module _ (table : TableEntries) (certificate : CertificateEntries) where
+  pub coverage-zero : certificate.coverage ≡ 0 → judgement table certificate ≡ CoverageRange certificate.coverage
+  unfolding judgement
+  coverage-zero none = rw (eq-eqb certificate.coverage 0 none) refl
+
+  module _ (some : certificate.coverage ≡ 0 → ⊥) where
+    pub coverage-high : max_coverage < certificate.coverage → judgement table certificate ≡ CoverageRange certificate.coverage
+    unfolding judgement
+    coverage-high high =
+        let first : eqb certificate.coverage 0 ≡ false = ne_eqb certificate.coverage 0 some in
+        let second : ltb max_coverage certificate.coverage ≡ true = lt-ltb max_coverage certificate.coverage high in
+        rw (first, second) refl
+
+    module _ (within : certificate.coverage ≤ max_coverage) where
+      pub many-members : max_isotopologues < length certificate.lines →
+          judgement table certificate ≡ TooManyMembers (length certificate.lines)
+      unfolding judgement
+      many-members many =
+          let first : eqb certificate.coverage 0 ≡ false = ne_eqb certificate.coverage 0 some in
+          let second : ltb max_coverage certificate.coverage ≡ false = le-ltb max_coverage certificate.coverage within in
+          let third : ltb max_isotopologues (length certificate.lines) ≡ true = lt-ltb max_isotopologues (length certificate.lines) many in
+          rw (first, second, third) refl
+
+      pub of-lines : length certificate.lines ≤ max_isotopologues →
+          judgement table certificate ≡ judgement_of_lines table certificate (first_unnamed table certificate)
+      unfolding judgement
+      of-lines few =
+          let first : eqb certificate.coverage 0 ≡ false = ne_eqb certificate.coverage 0 some in
+          let second : ltb max_coverage certificate.coverage ≡ false = le-ltb max_coverage certificate.coverage within in
+          let third : ltb max_isotopologues (length certificate.lines) ≡ false = le-ltb max_isotopologues (length certificate.lines) few in
+          rw (first, second, third) refl

@@ -1,0 +1,135 @@
+//! Judgements of certificates as calls: a worked certificate, and the same with one line changed.
+
+use super::*;
+use certificate_text::read_certificate;
+use element_table::read_table;
+use std::alloc::Global;
+use std::test::Fail;
+
+const TABLE: &[u8] = b"symbol,number,mass,abundance,valence
+e-,0,0.000548579909,0,0
+X,10,10,0.5,1
+X,11,11,0.5,1
+W,1,1,0.4,1
+W,2,2,0.3,1
+W,3,3,0.1,1
+W,4,4,0.1,1
+W,5,5,0.1,1
+";
+
+/// What is judged of a certificate of these numbers and lines, as words and numbers.
+fn judged(alloc: Global, text: &[u8]) -> Result<String, Fail> {
+    let table = read_table(alloc, TABLE)?;
+    let certificate = read_certificate(alloc, &table, text)?;
+    Ok(match check(alloc, &table, &certificate)? {
+        Judgement::Accepted => format!(in alloc; "accepted")?,
+        Judgement::CoverageRange { said } => format!(in alloc; "coverage range {said}")?,
+        Judgement::TooManyMembers { found } => format!(in alloc; "too many members {found}")?,
+        Judgement::NotOfFormula { line } => format!(in alloc; "not of formula {line}")?,
+        Judgement::OutOfOrder { line } => format!(in alloc; "out of order {line}")?,
+        Judgement::ModeAbsent => format!(in alloc; "mode absent")?,
+        Judgement::OpenBoundary {
+            line,
+            neighbour,
+            hi,
+        } => {
+            let length = neighbour.as_bytes().len();
+            format!(in alloc; "open boundary {line} {length} {hi}")?
+        }
+        Judgement::SizeDiffers { said, found } => format!(in alloc; "size differs {said} {found}")?,
+        Judgement::CoverShort { total } => format!(in alloc; "cover short {total}")?,
+        Judgement::BoundTooHigh { total } => format!(in alloc; "bound too high {total}")?,
+    })
+}
+
+const HEAD: &str = "isoform certificate 1\nformula X2\n";
+
+const NUMBERS: &str =
+    "coverage 750000000000000000\nsize 2\nbound 2\nthreshold 125000000000000000\n";
+
+const LINES: &str = "cover [10X][11X]\ncover [11X]2\nlayer [10X]2\nend\n";
+
+#[test]
+fn one_changed_line_is_the_first_test_that_fails(rt: HostRuntime) -> Result<(), Fail> {
+    let alloc = rt.alloc();
+    let rows: &[(&str, &str, &str)] = &[
+        (NUMBERS, LINES, "accepted"),
+        (
+            NUMBERS,
+            "cover [10X][11X]\ncover [11X]2\nend\n",
+            "open boundary 7 6 250000000000000000",
+        ),
+        (
+            NUMBERS,
+            "cover [11X]2\ncover [10X][11X]\nlayer [10X]2\nend\n",
+            "out of order 8",
+        ),
+        (
+            NUMBERS,
+            "cover [10X][11X]\ncover [10X][11X]\ncover [11X]2\nlayer [10X]2\nend\n",
+            "out of order 8",
+        ),
+        (
+            NUMBERS,
+            "cover [11X][10X]\ncover [11X]2\nlayer [10X]2\nend\n",
+            "not of formula 7",
+        ),
+        (NUMBERS, "cover [11X]2\nlayer [10X]2\nend\n", "mode absent"),
+        (
+            "coverage 750000000000000000\nsize 3\nbound 2\nthreshold 125000000000000000\n",
+            LINES,
+            "size differs 3 2",
+        ),
+        (
+            "coverage 750000000000000000\nsize 1\nbound 2\nthreshold 125000000000000000\n",
+            "cover [10X][11X]\nlayer [11X]2\nlayer [10X]2\nend\n",
+            "cover short 500000000000000000",
+        ),
+        (
+            "coverage 0\nsize 2\nbound 2\nthreshold 125000000000000000\n",
+            LINES,
+            "coverage range 0",
+        ),
+        (
+            "coverage 750000000000000000\nsize 2\nbound 0\nthreshold 125000000000000000\n",
+            LINES,
+            "accepted",
+        ),
+        (
+            "coverage 750000000000000000\nsize 2\nbound 3\nthreshold 125000000000000000\n",
+            LINES,
+            "bound too high 750000000000000000",
+        ),
+        (
+            "coverage 750000000000000000\nsize 2\nbound 1000000000000000000\nthreshold 125000000000000000\n",
+            LINES,
+            "bound too high 125000000000000000500000000000000000",
+        ),
+    ];
+    for (numbers, lines, expected) in rows {
+        let text = format!(in alloc; "{HEAD}{numbers}{lines}")?;
+        assert_eq!(rt; judged(alloc, text.as_bytes())?.as_str(), *expected);
+    }
+    Ok(())
+}
+
+// Two of three isotopes of one weight are listed; the isotope of 0.3 was left out.
+#[test]
+fn what_was_left_out_is_seen_by_the_neighbours(rt: HostRuntime) -> Result<(), Fail> {
+    let text = b"isoform certificate 1
+formula W
+coverage 600000000000000000
+size 3
+bound 3
+threshold 100000000000000000
+cover [1W]
+cover [4W]
+cover [3W]
+end
+";
+    assert_eq!(rt;
+        judged(rt.alloc(), text)?.as_str(),
+        "open boundary 7 4 300000000000000000"
+    );
+    Ok(())
+}
