@@ -2,7 +2,7 @@
 use Rattle.std.proofs.Common.{◌≡◌, ℕ, Bool, true, false, cond, eqb, ltb, List, [], length, Some, None, refl, sym, ◌∙◌, ap, All}
 use Rattle.std.specs.Prelude.{Option, ◌||◌}
 use Rattle.std.proofs.lemmas.Bool.{false≢true}
-use Rattle.isotopologue_sets.specs.Layers.{AreElements, max_isotopologues}
+use Rattle.isotopologue_sets.specs.Layers.{AreElements, max_members}
 use Rattle.isotopologue_sets.specs.Coverage.{max_coverage}
 use Rattle.element_table.specs.Elements.{TableEntries}
 use Rattle.isotopologue_text.specs.Isotopologues.{formula_elements, IsOfText}
@@ -62,7 +62,7 @@ unfolding judgement
 certificate-true table certificate ok meaning accepted =
     let held : is_accepted (judgement table certificate) ≡ true = ap is_accepted accepted in
     let many = otherwise ((eqb certificate.coverage 0) || ltb max_coverage certificate.coverage) _ _ refl held in
-    let lines = otherwise (ltb max_isotopologues (length certificate.lines)) _ _ refl many in
+    let lines = otherwise (ltb max_members (length certificate.lines)) _ _ refl many in
     let both = all_named table certificate (first_unnamed table certificate) lines in
     let claim : IsTrueClaim (claimed_by table certificate) (numbers_of certificate) =
     claim-true (claimed_by table certificate) (numbers_of certificate) ok

@@ -2,7 +2,7 @@
 use Rattle.std.proofs.Common.{◌≡◌, ℕ, ◌+◌, ◌<◌, ◌≤◌, Bool, true, false, cond, eqb, ltb, length, Some, None, refl, sym, ◌∙◌, ap, arith, ⊎_elim, inl, inr}
 use Rattle.std.specs.Prelude.{◌⊎◌, ◌||◌}
 use Rattle.std.proofs.lemmas.Bool.{eq-eqb, ne_eqb, lt-ltb, le-ltb}
-use Rattle.isotopologue_sets.specs.Layers.{max_isotopologues}
+use Rattle.isotopologue_sets.specs.Layers.{max_members}
 use Rattle.isotopologue_sets.specs.Coverage.{max_coverage}
 use Rattle.element_table.specs.Elements.{TableEntries}
 use Rattle.certificate_text.specs.Certificates.{CertificateEntries}
@@ -25,20 +25,20 @@ module _ (table : TableEntries) (certificate : CertificateEntries) where
         rw (first, second) refl
 
     module _ (within : certificate.coverage ≤ max_coverage) where
-      pub many-members : max_isotopologues < length certificate.lines →
+      pub many-members : max_members < length certificate.lines →
           judgement table certificate ≡ TooManyMembers (length certificate.lines)
       unfolding judgement
       many-members many =
           let first : eqb certificate.coverage 0 ≡ false = ne_eqb certificate.coverage 0 some in
           let second : ltb max_coverage certificate.coverage ≡ false = le-ltb max_coverage certificate.coverage within in
-          let third : ltb max_isotopologues (length certificate.lines) ≡ true = lt-ltb max_isotopologues (length certificate.lines) many in
+          let third : ltb max_members (length certificate.lines) ≡ true = lt-ltb max_members (length certificate.lines) many in
           rw (first, second, third) refl
 
-      pub of-lines : length certificate.lines ≤ max_isotopologues →
+      pub of-lines : length certificate.lines ≤ max_members →
           judgement table certificate ≡ judgement_of_lines table certificate (first_unnamed table certificate)
       unfolding judgement
       of-lines few =
           let first : eqb certificate.coverage 0 ≡ false = ne_eqb certificate.coverage 0 some in
           let second : ltb max_coverage certificate.coverage ≡ false = le-ltb max_coverage certificate.coverage within in
-          let third : ltb max_isotopologues (length certificate.lines) ≡ false = le-ltb max_isotopologues (length certificate.lines) few in
+          let third : ltb max_members (length certificate.lines) ≡ false = le-ltb max_members (length certificate.lines) few in
           rw (first, second, third) refl

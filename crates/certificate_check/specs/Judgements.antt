@@ -2,7 +2,7 @@
 -- numbered from 1, and the first member stands on line 7.
 use Rattle.std.specs.Prelude.{ℕ, ◌+◌, ◌*◌, ◌^◌, Bool, ◌||◌, ◌==◌, nat_lt, List, [], length, map, find, slice_index_or, is_none, unwrap_or, Option, Some, None, if◌then◌else◌}
 use Rattle.std.specs.List.{range_with_len}
-use Rattle.isotopologue_sets.specs.Layers.{max_isotopologues}
+use Rattle.isotopologue_sets.specs.Layers.{max_members}
 use Rattle.isotopologue_sets.specs.Coverage.{max_coverage}
 use Rattle.element_table.specs.Elements.{TableEntries}
 use Rattle.isotopologue_text.specs.Isotopologues.{formula_elements}
@@ -79,5 +79,5 @@ unfoldable pub judgement : TableEntries → CertificateEntries → Judgement
 judgement table certificate =
     if (certificate.coverage == 0) || nat_lt max_coverage certificate.coverage
     then CoverageRange certificate.coverage
-    else (if nat_lt max_isotopologues (length certificate.lines) then TooManyMembers (length certificate.lines)
+    else (if nat_lt max_members (length certificate.lines) then TooManyMembers (length certificate.lines)
     else judgement_of_lines table certificate (first_unnamed table certificate))
