@@ -10,7 +10,7 @@ use Rattle.formula_text.specs.Formulas.{IsFormula, IsItem, sum_of}
 use Rattle.formula_text.specs.Masses.{mass_of}
 use Rattle.mass_scaling.specs.Limits.{IsIonMass}
 use Rattle.adducts.specs.Adducts.{AdductValue, IsAdduct, divisor_of}
-use Rattle.adducts.specs.Ions.{ion_of, ion_mass, shift_of}
+use Rattle.adducts.specs.Ions.{ion_of, shift_of}
 use Rattle.adducts.proofs.IonAnswers.{mass-is}
 use Rattle.adducts.proofs.MassBounds.{parts-light}
 use Rattle.decompose.specs.Masses as lists

@@ -1,6 +1,6 @@
 -- Windows in which each count list is a candidate, since no limit of a formula or of an ion is near.
-use Rattle.std.proofs.Common.{◌≡◌, ℕ, ◌+◌, ◌*◌, ◌/◌, ◌<◌, ◌≤◌, Bool, true, false, cond, ltb, T, inl, inr, List, [], ◌∷◌, ◌++◌, length, map, filter, fold, refl, sym, ap, subst, ◌∙◌, arith, length-append}
-use Rattle.std.specs.Prelude.{None, Ok, is_some, nat_le, ◌==◌, ◌&&◌, ◌||◌, not}
+use Rattle.std.proofs.Common.{◌≡◌, ℕ, ◌+◌, ◌*◌, ◌/◌, ◌≤◌, Bool, true, false, cond, ltb, T, inl, inr, List, [], ◌∷◌, length, map, fold, refl, sym, ap, ◌∙◌, arith, length-append}
+use Rattle.std.specs.Prelude.{None, Ok, is_some, nat_le, ◌==◌, ◌&&◌, not}
 use Rattle.std.specs.List.{AllByRecursion, list_all}
 use Rattle.std.specs.FinMap.{is_sorted, find}
 use Rattle.std.specs.FinMap.Entries.{length-put}
@@ -18,7 +18,7 @@ use Rattle.formula_text.proofs.HillOrderLaws.{hill_total}
 use Rattle.formula_text.proofs.SumFolds.{is_sorted-with_part, sum_of-atoms, with_atoms}
 use Rattle.formula_text.proofs.SumLimits.{parts_of-within}
 use Rattle.adducts.specs.Adducts.{AdductValue, IsAdduct}
-use Rattle.adducts.specs.Ions.{gained, has_item, ion_count, ion_counts, ion_of, own_counts}
+use Rattle.adducts.specs.Ions.{gained, has_item, ion_count, ion_counts, ion_of}
 use Rattle.adducts.proofs.IonCounts.{distinct-counts, ion-weight, others_of}
 use Rattle.adducts.proofs.ItemLists.{Distinct, sum-Distinct}
 use Rattle.adducts.proofs.WeighedSums.{weigh, weigh-cons}

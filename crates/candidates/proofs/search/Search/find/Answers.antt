@@ -1,4 +1,4 @@
-use Rattle.std.proofs.Common.{◌≡◌, refl, sym, ap, ◌∙◌}
+use Rattle.std.proofs.Common.{refl, sym, ap, ◌∙◌}
 use Rattle.std.specs.Vec.{with_items}
 use Rattle.candidates.specs.Searches.{is_formed}
 use Rattle.candidates.proofs.SearchSteps.{so_far-taken, so_far-passed, finds-some, sure-taken}
