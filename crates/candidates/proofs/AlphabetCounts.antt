@@ -1,6 +1,7 @@
 -- The count lists of an alphabet: their items and masses.
-use Rattle.std.proofs.Common.{◌≡◌, ℕ, ◌*◌, ◌≤◌, List, [], ◌∷◌, refl, ap, arith}
-use Rattle.std.specs.Prelude.{All, IsTrue, is_some}
+use Rattle.std.proofs.Common.{◌≡◌, ℕ, ◌*◌, ◌≤◌, List, [], ◌∷◌, refl, sym, ap, subst, arith}
+use Rattle.std.specs.Prelude.{All, IsTrue, is_some, Option, Some, None, option_map}
+use Rattle.formula_text.proofs.SumFolds.{sum_of-items}
 use Rattle.std.specs.List.{AllByRecursion}
 use Rattle.std.proofs.lemmas.List.Elements.{All-from_recursion, recursion_from_All}
 use Rattle.element_table.specs.Elements.{TableEntries}
@@ -13,7 +14,7 @@ use Rattle.alphabet_text.specs.declared.entries.AlphabetEntry.{AlphabetEntry}
 use Rattle.alphabet_text.specs.Alphabets.{IsAlphabet, IsEntryOf, IsMassOfIsotope}
 use Rattle.std.proofs.Math.Nat.{mul-le-mul_left}
 use Rattle.adducts.proofs.WeighedSums.{weigh-cons}
-use Rattle.candidates.specs.PeakFormulas.{counts_of}
+use Rattle.candidates.specs.PeakFormulas.{counts_of, formula_at}
 use Rattle.candidates.specs.Searches.{masses_of}
 
 abbrev Known : TableEntries → Item × ℕ → Type 0
@@ -66,3 +67,18 @@ pub heavy-counts : (alphabet : List AlphabetEntry) (counts : List ℕ) → IsAlp
     → atoms_of (counts_of alphabet counts) ≤ lists.mass_of (masses_of alphabet) counts
 heavy-counts alphabet counts is =
     heavy-each alphabet counts (recursion_from_All (λ (e : AlphabetEntry). IsMassOfIsotope e.mass) alphabet is.sound.masses)
+
+-- and those of the formula of a count list
+pub HasItems-at : (table : TableEntries) (alphabet : List AlphabetEntry) (counts : List ℕ)
+    → All (IsEntryOf table) alphabet → HasItems table (formula_at alphabet counts)
+HasItems-at table alphabet counts h =
+    All-from_recursion (Known table) (formula_at alphabet counts)
+    (sum_of-items (λ item. IsTrue (is_some (item_isotope table item))) (counts_of alphabet counts)
+    (known-counts table alphabet counts (recursion_from_All (IsEntryOf table) alphabet h)))
+
+pub HasItems-token : (table : TableEntries) (alphabet : List AlphabetEntry) (given : Option (List ℕ)) (formula : List (Item × ℕ))
+    → All (IsEntryOf table) alphabet → Some formula ≡ option_map (formula_at alphabet) given → HasItems table formula
+HasItems-token table alphabet None formula h e = cc
+HasItems-token table alphabet (Some counts) formula h e =
+    let same : formula ≡ formula_at alphabet counts = cc in
+    subst (HasItems table) (sym same) (HasItems-at table alphabet counts h)

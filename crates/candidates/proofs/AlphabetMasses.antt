@@ -1,13 +1,14 @@
 -- The masses of an alphabet are masses of a decomposition, and its limits are limits.
 use Rattle.written_items.specs.declared.item.Item.{Item}
 use Rattle.std.proofs.Math.ListN.{replicate, length-replicate}
-use Rattle.std.proofs.Common.{◌≡◌, ap, ◌∙◌, ℕ, ◌≤◌, ◌<◌, ◌-◌, List, length, map, get_or, [], sym, subst, le_trans, lit≤, arith}
+use Rattle.std.proofs.Common.{◌≡◌, suc, ◌∷◌, refl, ap, ◌∙◌, ℕ, ◌≤◌, ◌<◌, ◌-◌, List, length, map, get_or, [], sym, subst, le_trans, lit≤, arith}
 use Rattle.std.proofs.lemmas.List.{length-map, get_or-map}
 use Rattle.std.specs.List.{All}
+use Rattle.std.specs.Prelude.{AllPairs}
 use Rattle.formula_text.specs.Formulas.{count_in}
-use Rattle.candidates.specs.PeakFormulas.{counts_in, items_of}
+use Rattle.candidates.specs.PeakFormulas.{counts_in, items_of, limits_of}
 use Rattle.decompose.specs.Masses.{AreMasses, base_of}
-use Rattle.decompose.specs.CountLists.{IsLimit}
+use Rattle.decompose.specs.CountLists.{IsLimit, IsInBox}
 use Rattle.alphabet_text.specs.Alphabets.{IsAlphabet}
 use Rattle.alphabet_text.specs.declared.entries.AlphabetEntry.{AlphabetEntry}
 
@@ -65,3 +66,20 @@ pub count-items : (alphabet : List AlphabetEntry) (formula : List (Item × ℕ))
     → length (counts_in alphabet formula) ≡ length alphabet
 count-items alphabet formula =
     length-map (items_of alphabet) (count_in formula) ∙ length-map alphabet (λ (e : AlphabetEntry). e.item)
+
+-- no item stands twice
+pub apart-items : (alphabet : List AlphabetEntry) → IsAlphabet alphabet → AllPairs (λ (a b : Item). a ≡ b → ⊥) (items_of alphabet)
+apart-items alphabet is = λ i j d before within same.
+    let last : j < length alphabet = omega (arith, within, length-map alphabet (λ (e : AlphabetEntry). e.item)) in
+    let first : i < length alphabet = omega (arith, before, last) in
+    is.sound.distinct i j no_entry before last
+    (sym (get_or-map (λ (e : AlphabetEntry). e.item) alphabet i no_entry d first) ∙ same
+    ∙ get_or-map (λ (e : AlphabetEntry). e.item) alphabet j no_entry d last)
+
+-- a count list of the box has a count for each of its items
+pub box-length : (alphabet : List AlphabetEntry) (counts : List ℕ) → IsInBox (limits_of alphabet) counts
+    → length counts ≡ length alphabet
+box-length [] [] h = refl
+box-length [] (c ∷ cs) h = absurd h
+box-length (e ∷ es) [] h = absurd h
+box-length (e ∷ es) (c ∷ cs) h = ap suc (box-length es cs h.2)

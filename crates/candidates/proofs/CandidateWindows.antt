@@ -1,8 +1,12 @@
 -- Each candidate of a peak has its mass in the window of the peak.
-use Rattle.std.proofs.Common.{◌≡◌, ℕ, ◌<◌, ◌≤◌, Bool, true, false, cond, List, [], ◌∷◌, length, refl, sym, ap, ◌∙◌, subst, arith, inl, inr}
-use Rattle.std.specs.Prelude.{Option, Some, None, is_some, ◌&&◌, option_map}
-use Rattle.std.proofs.lemmas.Bool.{false≢true, and_parts, cases_lt}
+use Rattle.std.proofs.Common.{◌≡◌, ℕ, zero, suc, ◌*◌, ◌<◌, ◌≤◌, ◌⊎◌, Bool, true, false, cond, List, [], ◌∷◌, length, refl, sym, ap, ◌∙◌, subst, arith, inl, inr}
+use Rattle.std.specs.Prelude.{Option, Some, None, is_some, ◌&&◌, nat_le, option_map}
+use Rattle.std.proofs.lemmas.Bool.{false≢true, and_parts, cases_lt, leb-true}
 use Rattle.std.proofs.lemmas.Bool.Decides.{nat_tests}
+use Rattle.std.proofs.lemmas.List.Elements.{recursion_from_All}
+use Rattle.std.proofs.Math.Nat.{mul-le-mul_right}
+use Rattle.alphabet_text.specs.declared.entries.AlphabetEntry.{AlphabetEntry}
+use Rattle.alphabet_text.specs.Alphabets.{IsMassOfIsotope}
 use Rattle.decompose.specs.Masses as lists
 use Rattle.decompose.specs.Enumeration.{is_within}
 use Rattle.mass_scaling.specs.declared.windows.Window.{Window}
@@ -21,7 +25,7 @@ use Rattle.adducts.proofs.IonCounts.{formula-is_sum, ion_of-shift}
 use Rattle.adducts.proofs.WeighedSums.{weigh-sum_of}
 use Rattle.candidates.specs.Grounds.{GroundValue, IsGround}
 use Rattle.candidates.specs.PeakFormulas.{counts_of, candidate_if, is_candidate, is_ion_within, meets_rules}
-use Rattle.candidates.specs.Searches.{Covers, masses_of}
+use Rattle.candidates.specs.Searches.{Covers, Admits, masses_of}
 use Rattle.candidates.proofs.AlphabetCounts.{mass-counts, heavy-counts}
 
 -- the ions of the premises's adduct as a window takes them
@@ -124,3 +128,41 @@ pub none-covers : (premises : GroundValue) (mz : ℕ) (window : Window) → IsGr
 none-covers premises mz window is none counts h =
     let within = candidate-within premises mz counts is h in
     absurd (none (lists.mass_of (masses_of premises.alphabet) counts) within.0 within.1)
+
+-- ---- the ions of the masses of a window
+
+-- each mass of the window of a peak has an ion within tolerance
+pub window-admits : (premises : GroundValue) (mz : ℕ) (window : Window)
+    → IsWindowOf mz premises.tolerance (charged_of premises) window → Admits premises mz window
+window-admits premises mz window of counts h =
+    let mass = lists.mass_of (masses_of premises.alphabet) counts in
+    let both = and_parts (nat_le window.lo mass) (nat_le mass window.hi) h in
+    of.all_between mass (leb-true window.lo mass both.0) (leb-true mass window.hi both.1)
+
+none-or-heavy : (alphabet : List AlphabetEntry) (counts : List ℕ) → AllByRecursion (λ e. IsMassOfIsotope e.mass) alphabet
+    → (lists.mass_of (masses_of alphabet) counts ≡ 0) ⊎ (1 < lists.mass_of (masses_of alphabet) counts)
+none-or-heavy [] counts h = inl refl
+none-or-heavy (e ∷ es) [] h = inl refl
+none-or-heavy (e ∷ es) (zero ∷ cs) h =
+    let none : zero * e.mass ≡ 0 = omega arith in
+    elim (none-or-heavy es cs h.1) [
+      | inl light ↦ inl (omega (arith, light, none))
+      | inr heavy ↦ inr (omega (arith, heavy, none))
+    ]
+none-or-heavy (e ∷ es) (suc c ∷ cs) h =
+    let from = h.0.from in
+    let more : 1 * e.mass ≤ suc c * e.mass = mul-le-mul_right e.mass (omega arith) in
+    inr (omega (arith, from, more))
+
+-- no count list has the mass 1, so that this window has none
+pub none-admits : (premises : GroundValue) (mz : ℕ) → IsGround premises → Admits premises mz (record { lo = 1; hi = 1 })
+none-admits premises mz is counts h =
+    let mass = lists.mass_of (masses_of premises.alphabet) counts in
+    let both = and_parts (nat_le 1 mass) (nat_le mass 1) h in
+    let low = leb-true 1 mass both.0 in
+    let high = leb-true mass 1 both.1 in
+    elim (none-or-heavy premises.alphabet counts
+    (recursion_from_All (λ (e : AlphabetEntry). IsMassOfIsotope e.mass) premises.alphabet is.is_alphabet.sound.masses)) [
+      | inl light ↦ absurd (omega (arith, low, light))
+      | inr heavy ↦ absurd (omega (arith, high, heavy))
+    ]

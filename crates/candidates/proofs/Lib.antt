@@ -4,3 +4,6 @@ pub mod CandidateWindows
 pub mod SearchSteps
 pub mod StandingSteps
 pub mod TokenCounts
+pub mod NumberedItems
+pub mod HillCounts
+pub mod CandidateTests

@@ -1,15 +1,16 @@
--- The steps of the state for candidates.
+-- The steps of the search for candidates.
 use Rattle.std.proofs.Common.{◌≡◌, ℕ, ◌+◌, ◌<◌, Bool, true, false, cond, List, [], ◌∷◌, ◌++◌, length, refl, sym, ap, ◌∙◌, subst, arith}
-use Rattle.std.specs.Prelude.{Some, None, Ok, IsTrue, not, is_some, ◌↔◌}
+use Rattle.std.specs.Prelude.{Some, IsTrue, not, ◌↔◌}
 use Rattle.std.specs.Bool.{OnTrue, OnFalse}
 use Rattle.std.proofs.lemmas.Bool.{false≢true}
 use Rattle.decompose.specs.CountLists.{IsInBox}
-use Rattle.decompose.specs.Enumeration.{Enumeration, left}
-use Rattle.written_items.specs.declared.item.Item.{Item}
+use Rattle.decompose.specs.Enumeration.{Enumeration, left, is_within}
+use Rattle.decompose.specs.Masses as lists
 use Rattle.candidates.specs.declared.search.Search.{Search}
-use Rattle.candidates.specs.Grounds.{GroundValue}
-use Rattle.candidates.specs.PeakFormulas.{candidate_of}
-use Rattle.candidates.specs.Searches.{IsSearch, GoesOn, Takes, Finds, todo, pending, candidates_in}
+use Rattle.candidates.specs.Grounds.{GroundValue, IsGround}
+use Rattle.candidates.specs.PeakFormulas.{is_candidate}
+use Rattle.candidates.specs.Searches.{Admits, IsInWindow, IsSearch, GoesOn, Takes, Finds, is_formed, masses_of, todo, pending, candidates_in}
+use Rattle.candidates.proofs.CandidateTests.{candidate-formed}
 
 -- ---- one list is taken
 
@@ -18,12 +19,14 @@ takes-pending state h =
     record {
       goes = record { masses = refl; limits = refl; window = refl };
       size = refl;
+      room = refl;
       is = h;
       same = refl;
       none = λ e. absurd (false≢true (sym e));
       kept = λ _. (refl, refl);
       given = λ e. absurd (false≢true (sym e ∙ h));
       in_box = λ e. absurd (false≢true (sym e ∙ h));
+      in_window = λ e. absurd (false≢true (sym e ∙ h));
     }
 
 -- what the enumeration of count lists says of one step
@@ -32,13 +35,14 @@ pub record Stepped (old new : Enumeration) (counts out : List ℕ) (taken : Bool
   pub end : IsTrue (not taken) ↔ (left old ≡ [])
   pub given : OnTrue taken (new ≡ record old { given = Some out })
   pub in_box : OnTrue taken (IsInBox old.limits out)
+  pub in_window : OnTrue taken (IsTrue (is_within old.window (lists.mass_of old.masses out)))
   pub unchanged : OnFalse taken (new ≡ old)
   pub out_unchanged : OnFalse taken (out ≡ counts)
   pub size : length out ≡ length counts
 
 pub takes-next : (state : Search) (new : Enumeration) (out : List ℕ) (taken : Bool) → state.is_pending ≡ false
     → Stepped state.decomps new state.counts out taken
-    → Takes state (record { decomps = new; counts = out; is_pending = taken }) taken
+    → Takes state (record { decomps = new; counts = out; is_pending = taken; room = state.room }) taken
 takes-next state new out true idle step =
     record {
       goes =
@@ -48,12 +52,14 @@ takes-next state new out true idle step =
             window = ap (λ (e : Enumeration). e.window) step.given;
           };
       size = step.size;
+      room = refl;
       is = refl;
       same = sym (ap (λ b. pending b state.counts ++ left state.decomps) idle ∙ step.next);
       none = λ e. absurd (false≢true (sym e));
       kept = λ e. absurd (false≢true (sym idle ∙ e));
       given = λ _ _. ap (λ (e : Enumeration). e.given) step.given;
       in_box = λ _ _. step.in_box;
+      in_window = λ _ _. step.in_window;
     }
 takes-next state new out false idle step =
     let none : left state.decomps ≡ [] = step.end.0 refl in
@@ -65,30 +71,49 @@ takes-next state new out false idle step =
             window = ap (λ (e : Enumeration). e.window) step.unchanged;
           };
       size = step.size;
+      room = refl;
       is = refl;
       same = ap left step.unchanged ∙ sym (ap (λ b. pending b state.counts ++ left state.decomps) idle);
       none = λ _. ap left step.unchanged ∙ none;
       kept = λ e. absurd (false≢true (sym idle ∙ e));
       given = λ _ e. absurd (false≢true e);
       in_box = λ _ e. absurd (false≢true e);
+      in_window = λ _ e. absurd (false≢true e);
     }
 
--- ---- the state
+-- ---- the search
+
+-- the mass of a count list is in the window, so that its ion is within tolerance
+is-within : (premises : GroundValue) (mz : ℕ) (search : Search) (initial : Search) → IsSearch premises search
+    → GoesOn initial search → Admits premises mz initial.decomps.window → search.is_pending ≡ true → IsGround premises
+    → is_candidate premises mz search.counts ≡ is_formed premises search.counts
+is-within premises mz search initial is goes admits h ground =
+    candidate-formed premises mz search.counts ground
+    (admits search.counts
+    (ap (λ w. is_within w (lists.mass_of (masses_of premises.alphabet) search.counts)) (sym goes.window)
+    ∙ ap (λ m. is_within search.decomps.window (lists.mass_of m search.counts)) (sym is.masses)
+    ∙ is.in_window h))
 
 -- what the loop over the count lists keeps
-pub record SoFar (premises : GroundValue) (mz : ℕ) (initial state : Search) : Type 0 where
+pub record SoFar (premises : GroundValue) (initial state : Search) : Type 0 where
   pub is_search : IsSearch premises state
   pub goes : GoesOn initial state
-  pub same : candidates_in premises mz (todo state) ≡ candidates_in premises mz (todo initial)
+  pub same : (mz : ℕ) → Admits premises mz initial.decomps.window
+      → candidates_in premises mz (todo state) ≡ candidates_in premises mz (todo initial)
 
-pub so_far-begins : (premises : GroundValue) (mz : ℕ) (state : Search) → IsSearch premises state
-    → SoFar premises mz state state
-so_far-begins premises mz state is =
-    record { is_search = is; goes = record { masses = refl; limits = refl; window = refl }; same = refl }
+pub so_far-begins : (premises : GroundValue) (state : Search) → IsSearch premises state → SoFar premises state state
+so_far-begins premises state is =
+    record { is_search = is; goes = record { masses = refl; limits = refl; window = refl }; same = λ mz admits. refl }
 
 goes-both : (a b c : Search) → GoesOn a b → GoesOn b c → GoesOn a c
 goes-both a b c g h =
     record { masses = h.masses ∙ g.masses; limits = h.limits ∙ g.limits; window = h.window ∙ g.window }
+
+window-kept : (old new : Search) (counts : List ℕ) → GoesOn old new → IsInWindow old.decomps counts
+    → IsInWindow new.decomps counts
+window-kept old new counts goes h =
+    ap (λ w. is_within w (lists.mass_of new.decomps.masses counts)) goes.window
+    ∙ ap (λ m. is_within old.decomps.window (lists.mass_of m counts)) goes.masses ∙ h
 
 taken-state : (premises : GroundValue) (old new : Search) (taken : Bool) → IsSearch premises old → Takes old new taken
     → IsSearch premises new
@@ -97,8 +122,10 @@ taken-state premises old new taken is takes =
       masses = takes.goes.masses ∙ is.masses;
       limits = takes.goes.limits ∙ is.limits;
       size = takes.size ∙ is.size;
+      room = ap (λ r. length r.items) takes.room ∙ is.room;
       taken = λ h. given old.is_pending refl (sym takes.is ∙ h);
       in_box = λ h. box old.is_pending refl (sym takes.is ∙ h);
+      in_window = λ h. window old.is_pending refl (sym takes.is ∙ h);
     }
   where
     given : (b : Bool) → old.is_pending ≡ b → taken ≡ true → new.decomps.given ≡ Some new.counts
@@ -113,40 +140,54 @@ taken-state premises old new taken is takes =
         (subst (λ l. IsInBox l old.counts) (sym takes.goes.limits) (is.in_box e))
     box false e h = subst (λ l. IsInBox l new.counts) (sym takes.goes.limits) (takes.in_box e h)
 
+    window : (b : Bool) → old.is_pending ≡ b → taken ≡ true → IsInWindow new.decomps new.counts
+    window true e h =
+        let kept = takes.kept e in
+        window-kept old new new.counts takes.goes (subst (IsInWindow old.decomps) (sym kept.0) (is.in_window e))
+    window false e h = window-kept old new new.counts takes.goes (takes.in_window e h)
+
 -- after a list was taken
-pub so_far-taken : (premises : GroundValue) (mz : ℕ) (initial old new : Search) (taken : Bool) → SoFar premises mz initial old
-    → Takes old new taken → SoFar premises mz initial new
-so_far-taken premises mz initial old new taken so_far takes =
+pub so_far-taken : (premises : GroundValue) (initial old new : Search) (taken : Bool) → SoFar premises initial old
+    → Takes old new taken → SoFar premises initial new
+so_far-taken premises initial old new taken so_far takes =
     record {
       is_search = taken-state premises old new taken so_far.is_search takes;
       goes = goes-both initial old new so_far.goes takes.goes;
-      same = ap (candidates_in premises mz) takes.same ∙ so_far.same;
+      same = λ mz admits. ap (candidates_in premises mz) takes.same ∙ so_far.same mz admits;
     }
 
-abbrev tested : Search → Search
-tested state = record { decomps = state.decomps; counts = state.counts; is_pending = false }
-
 -- a list that is no candidate is passed over
-pub so_far-passed : (premises : GroundValue) (mz : ℕ) (initial state : Search) → SoFar premises mz initial state
-    → state.is_pending ≡ true → candidate_of premises mz state.counts ≡ None
-    → SoFar premises mz initial (record { decomps = state.decomps; counts = state.counts; is_pending = false })
-so_far-passed premises mz initial state so_far h none =
+pub so_far-passed : (premises : GroundValue) (initial state new : Search) → IsGround premises → SoFar premises initial state
+    → state.is_pending ≡ true → is_formed premises state.counts ≡ false → length new.room.items ≡ length state.room.items
+    → new.decomps ≡ state.decomps → new.counts ≡ state.counts → new.is_pending ≡ false → SoFar premises initial new
+so_far-passed premises initial state new ground so_far h none room same_decomps same_counts idle =
     let is = so_far.is_search in
+    let goes : GoesOn state new =
+    record {
+      masses = ap (λ (e : Enumeration). e.masses) same_decomps;
+      limits = ap (λ (e : Enumeration). e.limits) same_decomps;
+      window = ap (λ (e : Enumeration). e.window) same_decomps;
+    } in
     record {
       is_search =
           record {
-            masses = is.masses;
-            limits = is.limits;
-            size = is.size;
-            taken = λ e. absurd (false≢true e);
-            in_box = λ e. absurd (false≢true e);
+            masses = goes.masses ∙ is.masses;
+            limits = goes.limits ∙ is.limits;
+            size = ap length same_counts ∙ is.size;
+            room = room ∙ is.room;
+            taken = λ e. absurd (false≢true (sym idle ∙ e));
+            in_box = λ e. absurd (false≢true (sym idle ∙ e));
+            in_window = λ e. absurd (false≢true (sym idle ∙ e));
           };
-      goes = record { masses = so_far.goes.masses; limits = so_far.goes.limits; window = so_far.goes.window };
-      same =
-          sym (ap (λ b. cond b (state.counts ∷ candidates_in premises mz (left state.decomps))
-          (candidates_in premises mz (left state.decomps))) (ap is_some none))
+      goes = goes-both initial state new so_far.goes goes;
+      same = λ mz admits.
+          ap (λ b. candidates_in premises mz (pending b new.counts ++ left new.decomps)) idle
+          ∙ ap (λ d. candidates_in premises mz (left d)) same_decomps
+          ∙ sym (ap (λ b. cond b (state.counts ∷ candidates_in premises mz (left state.decomps))
+          (candidates_in premises mz (left state.decomps)))
+          (is-within premises mz state initial is so_far.goes admits h ground ∙ none))
           ∙ sym (ap (λ b. candidates_in premises mz (pending b state.counts ++ left state.decomps)) h)
-          ∙ so_far.same;
+          ∙ so_far.same mz admits;
     }
 
 -- and each list that is taken is one less
@@ -159,44 +200,55 @@ todo-less old new takes =
 
 -- ---- how it ends
 
-pub finds-none : (premises : GroundValue) (mz : ℕ) (initial old new : Search) → SoFar premises mz initial old
-    → Takes old new false → Finds premises mz initial new (Ok None)
-finds-none premises mz initial old new so_far takes =
-    let next = so_far-taken premises mz initial old new false so_far takes in
+pub finds-none : (premises : GroundValue) (mz : ℕ) (initial old new : Search) → SoFar premises initial old
+    → Takes old new false → Admits premises mz initial.decomps.window → Finds premises mz initial new false
+finds-none premises mz initial old new so_far takes admits =
+    let next = so_far-taken premises initial old new false so_far takes in
     let none : todo new ≡ [] =
     ap (λ b. pending b new.counts ++ left new.decomps) takes.is ∙ takes.none refl in
     record {
       stands = next.is_search;
       goes = next.goes;
-      outcome = (sym next.same ∙ ap (candidates_in premises mz) none, ap (candidates_in premises mz) none);
+      outcome = (sym (next.same mz admits) ∙ ap (candidates_in premises mz) none, ap (candidates_in premises mz) none);
     }
 
-pub finds-some : (premises : GroundValue) (mz : ℕ) (initial state : Search) (formula : List (Item × ℕ))
-    → SoFar premises mz initial state → state.is_pending ≡ true
-    → candidate_of premises mz state.counts ≡ Some formula
-    → Finds premises mz initial (record { decomps = state.decomps; counts = state.counts; is_pending = false }) (Ok (Some formula))
-finds-some premises mz initial state formula so_far h found =
+-- a candidate was found; the room was written to
+pub finds-some : (premises : GroundValue) (mz : ℕ) (initial state new : Search) → IsGround premises
+    → SoFar premises initial state → state.is_pending ≡ true → is_formed premises state.counts ≡ true
+    → length new.room.items ≡ length state.room.items → new.decomps ≡ state.decomps → new.counts ≡ state.counts
+    → new.is_pending ≡ state.is_pending → Admits premises mz initial.decomps.window → Finds premises mz initial new true
+finds-some premises mz initial state new ground so_far h found room same_decomps same_counts same_pending admits =
     let is = so_far.is_search in
+    let goes : GoesOn state new =
+    record {
+      masses = ap (λ (e : Enumeration). e.masses) same_decomps;
+      limits = ap (λ (e : Enumeration). e.limits) same_decomps;
+      window = ap (λ (e : Enumeration). e.window) same_decomps;
+    } in
+    let candidate : is_candidate premises mz state.counts ≡ true =
+    is-within premises mz state initial is so_far.goes admits h ground ∙ found in
     record {
       stands =
           record {
-            masses = is.masses;
-            limits = is.limits;
-            size = is.size;
-            taken = λ e. absurd (false≢true e);
-            in_box = λ e. absurd (false≢true e);
+            masses = goes.masses ∙ is.masses;
+            limits = goes.limits ∙ is.limits;
+            size = ap length same_counts ∙ is.size;
+            room = room ∙ is.room;
+            taken = λ _. ap (λ (e : Enumeration). e.given) same_decomps ∙ is.taken h ∙ ap Some (sym same_counts);
+            in_box = λ _.
+                subst (IsInBox new.decomps.limits) (sym same_counts)
+                (subst (λ l. IsInBox l state.counts) (sym goes.limits) (is.in_box h));
+            in_window = λ _.
+                subst (IsInWindow new.decomps) (sym same_counts)
+                (window-kept state new state.counts goes (is.in_window h));
           };
-      goes = record { masses = so_far.goes.masses; limits = so_far.goes.limits; window = so_far.goes.window };
-      outcome =
-          record {
-            first =
-                sym so_far.same
-                ∙ ap (λ b. candidates_in premises mz (pending b state.counts ++ left state.decomps)) h
-                ∙ ap (λ b. cond b (state.counts ∷ candidates_in premises mz (left state.decomps))
-                (candidates_in premises mz (left state.decomps))) (ap is_some found);
-            tested = refl;
-            given = is.taken h;
-            in_box = is.in_box h;
-            candidate = found;
-          };
+      goes = goes-both initial state new so_far.goes goes;
+      outcome = (
+        same_pending ∙ h,
+        ap (is_candidate premises mz) same_counts ∙ candidate,
+        ap (λ d. candidates_in premises mz (pending new.is_pending new.counts ++ left d)) same_decomps
+            ∙ ap (λ cs. candidates_in premises mz (pending new.is_pending cs ++ left state.decomps)) same_counts
+            ∙ ap (λ b. candidates_in premises mz (pending b state.counts ++ left state.decomps)) same_pending
+            ∙ so_far.same mz admits,
+      );
     }

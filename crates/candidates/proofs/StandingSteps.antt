@@ -1,6 +1,6 @@
 -- Where an enumeration of candidates stands, from its start on.
-use Rattle.std.proofs.Common.{◌≡◌, ℕ, ◌≤◌, Bool, true, false, cond, List, [], ◌∷◌, ◌++◌, length, map, filter, refl, sym, ap, ◌∙◌, subst}
-use Rattle.std.specs.Prelude.{Option, Some, None, Ok, IfSome, is_some, ◌&&◌}
+use Rattle.std.proofs.Common.{Vec, Global, ◌≡◌, ℕ, ◌≤◌, Bool, true, false, cond, List, [], ◌∷◌, ◌++◌, length, map, filter, refl, sym, ap, ◌∙◌, subst}
+use Rattle.std.specs.Prelude.{Option, Some, None, IfSome, is_some, ◌&&◌}
 use Rattle.std.proofs.lemmas.Bool.{false≢true}
 use Rattle.decompose.specs.declared.limits.Limit.{Limit}
 use Rattle.decompose.specs.CountLists.{IsInBox, box_of, comes_after}
@@ -10,13 +10,12 @@ use Rattle.decompose.proofs.FindAndFilter.{filter_twice}
 use Rattle.mass_scaling.specs.declared.windows.Window.{Window}
 use Rattle.written_items.specs.declared.item.Item.{Item}
 use Rattle.formula_text.specs.Formulas.{formula_of}
-use Rattle.adducts.specs.Ions.{ion_mass}
 use Rattle.adducts.proofs.IonCounts.{formula-is_sum}
 use Rattle.candidates.specs.declared.search.Search.{Search}
 use Rattle.candidates.specs.Grounds.{GroundValue, IsGround}
-use Rattle.candidates.specs.PeakFormulas.{counts_of, formula_at, limits_of, candidate_if, candidate_of, is_candidate, is_ion_within, meets_rules, formulas_of_peak}
+use Rattle.candidates.specs.PeakFormulas.{counts_of, formula_at, limits_of, candidate_if, is_candidate, formulas_of_peak}
 use Rattle.candidates.specs.Enumeration.{CandidateEnumeration, formulas_left}
-use Rattle.candidates.specs.Searches.{IsSearch, GoesOn, Finds, Covers, todo, pending, candidates_in, masses_of}
+use Rattle.candidates.specs.Searches.{IsSearch, GoesOn, Finds, Outcome, Covers, Admits, todo, pending, candidates_in, masses_of}
 use Rattle.candidates.specs.Standings.{IsToken, IsStanding}
 
 filter-agree : {A : Type 0} (p q : A → Bool) (xs : List A) → ((x : A) → p x ≡ q x) → filter p xs ≡ filter q xs
@@ -94,33 +93,67 @@ rest-of premises mz e masses limits covers = cases e.given refl
 
 -- ---- one candidate more
 
-candidate-formula : (premises : GroundValue) (mz : ℕ) (counts : List ℕ) (f : List (Item × ℕ))
-    → candidate_of premises mz counts ≡ Some f → formula_of (counts_of premises.alphabet counts) ≡ Some f
-candidate-formula premises mz counts f e = cases (formula_of (counts_of premises.alphabet counts)) refl e
+-- the formula of a candidate
+pub candidate-formula : (premises : GroundValue) (mz : ℕ) (counts : List ℕ) → is_candidate premises mz counts ≡ true
+    → is_some (formula_of (counts_of premises.alphabet counts)) ≡ true
+candidate-formula premises mz counts h = cases (formula_of (counts_of premises.alphabet counts)) refl
   where
-    inner : (g : List (Item × ℕ)) (b : Bool) → cond b (Some g) None ≡ Some f → Some g ≡ Some f
-    inner g true e = e
-    inner g false e = cc
-
     cases : (o : Option (List (Item × ℕ))) → formula_of (counts_of premises.alphabet counts) ≡ o
-        → candidate_if premises mz o ≡ Some f → formula_of (counts_of premises.alphabet counts) ≡ Some f
-    cases None none e = cc
-    cases (Some g) some e =
-        some ∙ inner g (is_ion_within premises mz (ion_mass premises.table premises.adduct g) && meets_rules premises g) e
+        → is_some (formula_of (counts_of premises.alphabet counts)) ≡ true
+    cases None e = absurd (false≢true (sym (ap (λ o. is_some (candidate_if premises mz o)) e) ∙ h))
+    cases (Some f) e = ap is_some e
 
-pub candidate-at : (premises : GroundValue) (mz : ℕ) (counts : List ℕ) (f : List (Item × ℕ))
-    → candidate_of premises mz counts ≡ Some f → f ≡ formula_at premises.alphabet counts
-candidate-at premises mz counts f e =
-    (formula-is_sum (counts_of premises.alphabet counts) f (candidate-formula premises mz counts f e)).0
+-- a candidate was found: it is the list taken last
+record IsFound (premises : GroundValue) (mz : ℕ) (old new : Search) : Type 0 where
+  first : candidates_in premises mz (todo old) ≡ new.counts ∷ candidates_in premises mz (left new.decomps)
+  given : new.decomps.given ≡ Some new.counts
+  in_box : IsInBox new.decomps.limits new.counts
+
+found : (premises : GroundValue) (mz : ℕ) (old new : Search) → Finds premises mz old new true → IsFound premises mz old new
+found premises mz old new finds =
+    let outcome = finds.outcome in
+    record {
+      first =
+          sym outcome.2
+          ∙ ap (λ b. candidates_in premises mz (pending b new.counts ++ left new.decomps)) outcome.0
+          ∙ ap (λ b. cond b (new.counts ∷ candidates_in premises mz (left new.decomps))
+          (candidates_in premises mz (left new.decomps))) outcome.1;
+      given = finds.stands.taken outcome.0;
+      in_box = finds.stands.in_box outcome.0;
+    }
 
 covers-on : (premises : GroundValue) (mz : ℕ) (old new : Search) → GoesOn old new → Covers premises mz old.decomps.window
     → Covers premises mz new.decomps.window
 covers-on premises mz old new goes covers = subst (Covers premises mz) (sym goes.window) covers
 
--- after a candidate was given: the state of the search with some other list of counts
-pub standing-given : (premises : GroundValue) (mz : ℕ) (old new : Search) (given : Option (List ℕ)) (f : List (Item × ℕ)) (spare : List ℕ) → IsStanding premises mz old given → Finds premises mz old new (Ok (Some f)) → length spare ≡ length premises.alphabet → IsStanding premises mz (record { decomps = new.decomps; counts = spare; is_pending = new.is_pending }) (Some new.counts)
-standing-given premises mz old new given f spare is finds size =
-    let found = finds.outcome in
+admits-on : (premises : GroundValue) (mz : ℕ) (old new : Search) → GoesOn old new → Admits premises mz old.decomps.window
+    → Admits premises mz new.decomps.window
+admits-on premises mz old new goes admits = subst (Admits premises mz) (sym goes.window) admits
+
+-- where none was given: what was found stays to be given
+pub standing-kept : (premises : GroundValue) (mz : ℕ) (old new : Search) (given : Option (List ℕ)) (b : Bool)
+    → IsStanding premises mz old given → Finds premises mz old new b → IsStanding premises mz new given
+standing-kept premises mz old new given b is finds =
+    record {
+      is_ground = is.is_ground;
+      some_mz = is.some_mz;
+      few_mz = is.few_mz;
+      is_search = finds.stands;
+      covers = covers-on premises mz old new finds.goes is.covers;
+      admits = admits-on premises mz old new finds.goes is.admits;
+      token = is.token;
+      rest = is.rest ∙ sym (same b finds.outcome);
+    }
+  where
+    same : (b : Bool) → Outcome premises mz old new b
+        → candidates_in premises mz (todo new) ≡ candidates_in premises mz (todo old)
+    same true outcome = outcome.2
+    same false outcome = outcome.1 ∙ sym outcome.0
+
+-- after a candidate was given: the search with some other list of counts
+pub standing-given : (premises : GroundValue) (mz : ℕ) (old new : Search) (given : Option (List ℕ)) (spare : List ℕ) → IsStanding premises mz old given → Finds premises mz old new true → length spare ≡ length premises.alphabet → IsStanding premises mz (record { decomps = new.decomps; counts = spare; is_pending = false; room = new.room }) (Some new.counts)
+standing-given premises mz old new given spare is finds size =
+    let it = found premises mz old new finds in
     let stands = finds.stands in
     let covers = covers-on premises mz old new finds.goes is.covers in
     record {
@@ -132,56 +165,84 @@ standing-given premises mz old new given f spare is finds size =
             masses = stands.masses;
             limits = stands.limits;
             size = size;
-            taken = λ e. absurd (false≢true (sym found.tested ∙ e));
-            in_box = λ e. absurd (false≢true (sym found.tested ∙ e));
+            room = stands.room;
+            taken = λ e. absurd (false≢true e);
+            in_box = λ e. absurd (false≢true e);
+            in_window = λ e. absurd (false≢true e);
           };
       covers = covers;
+      admits = admits-on premises mz old new finds.goes is.admits;
       token =
           record {
-            in_box = subst (λ l. IsInBox l new.counts) stands.limits found.in_box;
-            is_formula = ap is_some (candidate-formula premises mz new.counts f found.candidate);
+            in_box = subst (λ l. IsInBox l new.counts) stands.limits it.in_box;
+            is_formula = candidate-formula premises mz new.counts finds.outcome.1;
           };
       rest =
-          ap (after_given (formulas_of_peak premises mz)) (sym found.given)
-          ∙ rest-of premises mz new.decomps stands.masses stands.limits covers
-          ∙ ap (λ b. candidates_in premises mz (pending b spare ++ left new.decomps)) (sym found.tested);
+          ap (after_given (formulas_of_peak premises mz)) (sym it.given)
+          ∙ rest-of premises mz new.decomps stands.masses stands.limits covers;
     }
 
--- where none was given
-pub standing-kept : (premises : GroundValue) (mz : ℕ) (old new : Search) (given : Option (List ℕ)) → IsStanding premises mz old given → IsSearch premises new → GoesOn old new → candidates_in premises mz (todo new) ≡ candidates_in premises mz (todo old) → IsStanding premises mz new given
-standing-kept premises mz old new given is stands goes same =
-    record {
-      is_ground = is.is_ground;
-      some_mz = is.some_mz;
-      few_mz = is.few_mz;
-      is_search = stands;
-      covers = covers-on premises mz old new goes is.covers;
-      token = is.token;
-      rest = is.rest ∙ sym same;
-    }
+-- the same of the search that gave it
+pub standing-next : (premises : GroundValue) (mz : ℕ) (old new gave : Search) (given : Option (List ℕ)) (last list : List ℕ) → IsStanding premises mz old given → Finds premises mz old new true → length last ≡ length premises.alphabet → gave ≡ record new { counts = last; is_pending = false } → list ≡ new.counts → (length list ≡ length premises.alphabet) × IsStanding premises mz gave (Some list)
+standing-next premises mz old new gave given last list is finds size of_gave of_list = (
+  ap length of_list ∙ finds.stands.size,
+  subst (λ s. IsStanding premises mz s (Some list)) (sym of_gave)
+      (subst (λ l. IsStanding premises mz (record new { counts = last; is_pending = false }) (Some l)) (sym of_list)
+      (standing-given premises mz old new given last is finds size)),
+)
 
 -- what is left before and after
-pub given-next : (premises : GroundValue) (mz : ℕ) (old new : Search) (given : Option (List ℕ)) (f : List (Item × ℕ))
-    → IsStanding premises mz old given → Finds premises mz old new (Ok (Some f))
+pub given-next : (premises : GroundValue) (mz : ℕ) (old new : Search) (given : Option (List ℕ))
+    → IsStanding premises mz old given → Finds premises mz old new true
     → after_given (formulas_of_peak premises mz) given ≡ new.counts ∷ after_given (formulas_of_peak premises mz) (Some new.counts)
-given-next premises mz old new given f is finds =
-    let found = finds.outcome in
+given-next premises mz old new given is finds =
+    let it = found premises mz old new finds in
     let stands = finds.stands in
-    is.rest ∙ found.first
-    ∙ ap (λ l. new.counts ∷ l) (sym (ap (after_given (formulas_of_peak premises mz)) (sym found.given)
+    is.rest ∙ it.first
+    ∙ ap (λ l. new.counts ∷ l) (sym (ap (after_given (formulas_of_peak premises mz)) (sym it.given)
     ∙ rest-of premises mz new.decomps stands.masses stands.limits (covers-on premises mz old new finds.goes is.covers)))
+
+-- nothing is left
+pub none-next : (premises : GroundValue) (mz : ℕ) (old new : Search) (given : Option (List ℕ))
+    → IsStanding premises mz old given → Finds premises mz old new false → after_given (formulas_of_peak premises mz) given ≡ []
+none-next premises mz old new given is finds = is.rest ∙ finds.outcome.0
+
+-- the formula of a candidate that is given
+pub given-formula : (premises : GroundValue) (mz : ℕ) (old new : Search) (o : Option (List (Item × ℕ)))
+    → Finds premises mz old new true → o ≡ formula_of (counts_of premises.alphabet new.counts)
+    → o ≡ Some (formula_at premises.alphabet new.counts)
+given-formula premises mz old new None finds same =
+    absurd (false≢true (ap is_some same ∙ candidate-formula premises mz new.counts finds.outcome.1))
+given-formula premises mz old new (Some f) finds same =
+    ap Some (formula-is_sum (counts_of premises.alphabet new.counts) f (sym same)).0
+
+-- what is left, as formulas
+pub given-formulas : (premises : GroundValue) (mz : ℕ) (old new : Search) (given : Option (List ℕ)) (o : Option (List (Item × ℕ))) (list : List ℕ) (before : CandidateEnumeration) → IsStanding premises mz old given → Finds premises mz old new true → o ≡ formula_of (counts_of premises.alphabet new.counts) → list ≡ new.counts → before ≡ record { premises = premises; mz = mz; given = given } → IfSome o (λ f. formulas_left before ≡ f ∷ formulas_left (record { premises = premises; mz = mz; given = Some list }))
+given-formulas premises mz old new given o list before is finds made of_list of_before =
+    let formula = formula_at premises.alphabet in
+    let left : formulas_left before
+    ≡ formula new.counts ∷ formulas_left (record { premises = premises; mz = mz; given = Some new.counts }) =
+    ap formulas_left of_before ∙ ap (map formula) (given-next premises mz old new given is finds) in
+    subst (λ p. IfSome p (λ f. formulas_left before
+    ≡ f ∷ formulas_left (record { premises = premises; mz = mz; given = Some list })))
+    (sym (given-formula premises mz old new o finds made))
+    (left ∙ ap (λ l. formula new.counts ∷ formulas_left (record { premises = premises; mz = mz; given = Some l })) (sym of_list))
+
+-- ---- the start
 
 pub standing-start : (premises : GroundValue) (mz : ℕ) (state : Search) (given : Option (List ℕ)) → IsGround premises → 1 ≤ mz
     → mz ≤ 20000000000000000 → IsSearch premises state → Covers premises mz state.decomps.window
+    → Admits premises mz state.decomps.window
     → state.is_pending ≡ false → state.decomps.given ≡ given → IfSome given (IsToken premises)
     → IsStanding premises mz state given
-standing-start premises mz state given is some few stands covers idle same token =
+standing-start premises mz state given is some few stands covers admits idle same token =
     record {
       is_ground = is;
       some_mz = some;
       few_mz = few;
       is_search = stands;
       covers = covers;
+      admits = admits;
       token = token;
       rest =
           ap (after_given (formulas_of_peak premises mz)) (sym same)
@@ -189,33 +250,18 @@ standing-start premises mz state given is some few stands covers idle same token
           ∙ ap (λ b. candidates_in premises mz (pending b state.counts ++ left state.decomps)) (sym idle);
     }
 
--- ---- what the calls keep and give
-
-pub standing-made : (premises : GroundValue) (mz : ℕ) (d : Enumeration) (counts masses : List ℕ) (limits : List Limit) (window : Window) (given : Option (List ℕ)) → IsGround premises → 1 ≤ mz → mz ≤ 20000000000000000 → d ≡ record { masses = masses; limits = limits; window = window; given = given } → masses ≡ masses_of premises.alphabet → limits ≡ limits_of premises.alphabet → Covers premises mz window → length counts ≡ length premises.alphabet → IfSome given (IsToken premises) → IsStanding premises mz (record { decomps = d; counts = counts; is_pending = false }) given
-standing-made premises mz d counts masses limits window given is some few made of_masses of_limits covers size token =
-    standing-start premises mz (record { decomps = d; counts = counts; is_pending = false }) given is some few
+pub standing-made : (premises : GroundValue) (mz : ℕ) (d : Enumeration) (counts masses : List ℕ) (limits : List Limit) (window : Window) (room : Vec (Item × ℕ) Global) (given : Option (List ℕ)) → IsGround premises → 1 ≤ mz → mz ≤ 20000000000000000 → d ≡ record { masses = masses; limits = limits; window = window; given = given } → masses ≡ masses_of premises.alphabet → limits ≡ limits_of premises.alphabet → Covers premises mz window → Admits premises mz window → length counts ≡ length premises.alphabet → length room.items ≡ length premises.alphabet → IfSome given (IsToken premises) → IsStanding premises mz (record { decomps = d; counts = counts; is_pending = false; room = room }) given
+standing-made premises mz d counts masses limits window room given is some few made of_masses of_limits covers admits size spare token =
+    standing-start premises mz (record { decomps = d; counts = counts; is_pending = false; room = room }) given is some few
     (record {
       masses = ap (λ (e : Enumeration). e.masses) made ∙ of_masses;
       limits = ap (λ (e : Enumeration). e.limits) made ∙ of_limits;
       size = size;
+      room = spare;
       taken = λ e. absurd (false≢true e);
       in_box = λ e. absurd (false≢true e);
+      in_window = λ e. absurd (false≢true e);
     })
-    (subst (Covers premises mz) (sym (ap (λ (e : Enumeration). e.window) made)) covers) refl
+    (subst (Covers premises mz) (sym (ap (λ (e : Enumeration). e.window) made)) covers)
+    (subst (Admits premises mz) (sym (ap (λ (e : Enumeration). e.window) made)) admits) refl
     (ap (λ (e : Enumeration). e.given) made) token
-
-pub standing-next : (premises : GroundValue) (mz : ℕ) (old new : Search) (given : Option (List ℕ)) (found : Option (List (Item × ℕ))) (last x y : List ℕ) → IsStanding premises mz old given → Finds premises mz old new (Ok found) → is_some found ≡ true → length last ≡ length premises.alphabet → x ≡ last → y ≡ new.counts → (length y ≡ length premises.alphabet) × IsStanding premises mz (record { decomps = new.decomps; counts = x; is_pending = new.is_pending }) (Some y)
-standing-next premises mz old new given None last x y is finds some size of_x of_y = absurd (false≢true some)
-standing-next premises mz old new given (Some f) last x y is finds some size of_x of_y = (
-  ap length of_y ∙ finds.stands.size,
-  subst (λ c. IsStanding premises mz (record { decomps = new.decomps; counts = x; is_pending = new.is_pending }) (Some c)) (sym of_y)
-      (standing-given premises mz old new given f x is finds (ap length of_x ∙ size)),
-)
-
-pub next-formulas : (premises : GroundValue) (mz : ℕ) (old new : Search) (given : Option (List ℕ)) (found : Option (List (Item × ℕ))) (state : CandidateEnumeration) → IsStanding premises mz old given → Finds premises mz old new (Ok found) → (is_some found ≡ true → state ≡ record { premises = premises; mz = mz; given = Some new.counts }) → IfSome found (λ f. formulas_left (record { premises = premises; mz = mz; given = given }) ≡ f ∷ formulas_left state)
-next-formulas premises mz old new given None state is finds same = tt
-next-formulas premises mz old new given (Some f) state is finds same =
-    ap (map (formula_at premises.alphabet)) (given-next premises mz old new given f is finds)
-    ∙ ap (λ g. g ∷ map (formula_at premises.alphabet) (after_given (formulas_of_peak premises mz) (Some new.counts)))
-    (sym (candidate-at premises mz new.counts f finds.outcome.candidate))
-    ∙ ap (λ e. f ∷ formulas_left e) (sym (same refl))

@@ -1,6 +1,8 @@
 pub mod Grounds
 pub mod PeakFormulas
 pub mod Enumeration
+pub mod Lines
+pub mod HillOrders
 pub mod Searches
 pub mod Standings
 pub mod Tokens
@@ -10,3 +12,4 @@ pub use Rattle.adducts.specs.Ions
 pub use Rattle.golden_rules.specs.Verdicts
 pub use Rattle.mass_scaling.specs.Tolerances
 pub use Rattle.formula_text.specs.Formulas
+pub use Rattle.report_text.specs.ReportLines

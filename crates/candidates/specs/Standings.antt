@@ -7,7 +7,7 @@ use Rattle.formula_text.specs.Formulas.{formula_of}
 use Rattle.candidates.specs.declared.search.Search.{Search}
 use Rattle.candidates.specs.Grounds.{GroundValue, IsGround}
 use Rattle.candidates.specs.PeakFormulas.{formulas_of_peak, counts_of, limits_of}
-use Rattle.candidates.specs.Searches.{IsSearch, Covers, candidates_in, todo}
+use Rattle.candidates.specs.Searches.{IsSearch, Covers, Admits, candidates_in, todo}
 
 abbrev pub given_if : Bool → List ℕ → Option (List ℕ)
 given_if has_given last = if has_given then Some last else None
@@ -23,5 +23,6 @@ pub record IsStanding (premises : GroundValue) (mz : ℕ) (search : Search) (giv
   pub few_mz : mz ≤ MAX_MZ
   pub is_search : IsSearch premises search
   pub covers : Covers premises mz search.decomps.window
+  pub admits : Admits premises mz search.decomps.window
   pub token : IfSome given (IsToken premises)
   pub rest : after_given (formulas_of_peak premises mz) given ≡ candidates_in premises mz (todo search)

@@ -1,26 +1,32 @@
 //! The enumeration of the candidates of a peak.
-ghost use Rattle.std.specs.Prelude.{◌≡◌, ◌≤◌, ◌↔◌, [], ◌∷◌, IfOk, IfSome, OnOk, OnErr, IsErrOf, IsTrue, Some, None, map, option_map};
+ghost use Rattle.std.specs.Prelude.{◌≡◌, ◌≤◌, ◌↔◌, [], ◌∷◌, ◌++◌, nat_lt, IfOk, IfSome, IsSomeAnd, OnOk, OnErr, IsErrOf, IsTrue, not, Some, None, length, map, option_map};
+ghost use Rattle.std.specs.Bool.{OnTrue, OnFalse};
 ghost use Rattle.mass_scaling.specs.declared.limits.TheConstants.{MAX_MZ};
 ghost use Rattle.mass_scaling.specs.Windows.{IsWindow};
 ghost use Rattle.candidates.specs.PeakFormulas.{formulas_of_peak, formula_at, counts_in};
 ghost use Rattle.candidates.specs.Enumeration.{counts_left, formulas_left};
+ghost use Rattle.candidates.specs.Lines.{given_line};
 ghost use Rattle.decompose.specs.Enumeration.{lists_after};
+ghost use Rattle.formula_text.specs.Masses.{HasItems};
+ghost use Rattle.report_text.specs.ReportLines.{decompose_line};
 ghost use Rattle.formula_text.specs.Formulas.{IsFormula, count_in};
-ghost use Rattle.candidates.specs.Searches.{Covers};
+ghost use Rattle.candidates.specs.Searches.{Covers, Admits};
 ghost use Rattle.std.specs.List.{list_any};
 ghost use Rattle.written_items.specs.Items.{item_eq};
 ghost use Rattle.candidates.specs.Tokens.{IsInAlphabetBox, has_only, fits};
+ghost use Rattle.candidates.specs.Standings.{IsToken};
 
 use crate::grounds::Ground;
 use crate::search::{Search, counts_of};
+use adducts::ion_mass;
 use alphabet_text::Alphabet;
 use decompose::{Counts, Decomps, Limit, ResumeFault, Window};
 use formula_text::Formula;
 use mass_scaling::window_of;
 use outside_ports::Steps;
+use report_text::push_decompose_line;
 use std::alloc::{AllocError, Global};
 use std::marker::Model;
-use std::mem;
 use std::sync::ledger::Ledger;
 use written_items::Item;
 
@@ -59,6 +65,7 @@ fn peak_window(premises: &Ground, mz: u64) -> Window
     requires few_mz { mz ≤ MAX_MZ }
     ensures window { IsWindow result }
     ensures covers { Covers premises.now mz result }
+    ensures admits { Admits premises.now mz result }
 {
     match window_of(mz, premises.tolerance(), premises.charged()) {
         Some(window) => window,
@@ -76,13 +83,16 @@ impl<'t> Candidates<'t> {
     {
         let alphabet = premises.alphabet();
         let window = peak_window(premises, mz);
-        let counts = Counts::zero(alloc, alphabet.items().len())?;
-        let last = Counts::zero(alloc, alphabet.items().len())?;
+        let size = alphabet.items().len();
+        let counts = Counts::zero(alloc, size)?;
+        let last = Counts::zero(alloc, size)?;
+        let room = empty_room(alloc, alphabet)?;
         let decomps = Decomps::start(alloc, premises.tables(), alphabet.limits(), window)?;
         let search = Search {
             decomps,
             counts,
             is_pending: false,
+            room,
         };
         Ok(Candidates {
             alloc,
@@ -122,13 +132,36 @@ impl<'t> Candidates<'t> {
             return Err(ResumeFault::NotInBox);
         }
         let last = counts_in(alloc, alphabet.items(), after)?;
-        let counts = Counts::zero(alloc, alphabet.items().len())?;
+        Ok(Candidates::after(alloc, premises, mz, last)?)
+    }
+
+    /// The candidates of a peak whose counts come after these.
+    fn after(
+        alloc: Global,
+        premises: &'t Ground,
+        mz: u64,
+        last: Counts,
+    ) -> Result<Candidates<'t>, AllocError>
+        requires some_mz { 1 ≤ mz }
+        requires few_mz { mz ≤ MAX_MZ }
+        requires token { IsToken premises.now last }
+        ensures { IfOk result (λ c. c ≡ record { premises = premises.now; mz = mz; given = Some last }) }
+    {
+        let alphabet = premises.alphabet();
         let window = peak_window(premises, mz);
-        let decomps = Decomps::resume(alloc, premises.tables(), alphabet.limits(), window, &last)?;
+        let counts = Counts::zero(alloc, alphabet.items().len())?;
+        let room = empty_room(alloc, alphabet)?;
+        let limits = alphabet.limits();
+        let decomps = match Decomps::resume(alloc, premises.tables(), limits, window, &last) {
+            Ok(decomps) => decomps,
+            Err(ResumeFault::Memory) => return Err(AllocError),
+            Err(ResumeFault::NotInBox) => unreachable!(),
+        };
         let search = Search {
             decomps,
             counts,
             is_pending: false,
+            room,
         };
         Ok(Candidates {
             alloc,
@@ -138,6 +171,23 @@ impl<'t> Candidates<'t> {
             last,
             has_given: true,
         })
+    }
+
+    /// Goes on to the next candidate: false exactly where none is left, and nothing changes then. Takes no memory.
+    pub fn advance<L: Ledger>(&mut self, steps: &mut Steps<L>) -> bool
+        ensures next { OnTrue result (IsSomeAnd self.new.given (λ counts.
+            counts_left self.old ≡ counts ∷ counts_left self.new)) }
+        ensures end { IsTrue (not result) ↔ (counts_left self.old ≡ []) }
+        ensures unchanged { OnFalse result (self.new ≡ self.old) }
+        ensures peak { self.new.mz ≡ self.old.mz }
+        ensures premises { self.new.premises ≡ self.old.premises }
+    {
+        if !self.search.find(self.premises, steps) {
+            return false;
+        }
+        self.search.give(&mut self.last);
+        self.has_given = true;
+        true
     }
 
     /// The next candidate, none exactly at the end. Without memory for it the same one is the next in a later call.
@@ -150,12 +200,56 @@ impl<'t> Candidates<'t> {
         ensures peak { IfOk result (λ o. self.new.mz ≡ self.old.mz) }
         ensures premises { IfOk result (λ o. self.new.premises ≡ self.old.premises) }
     {
-        let found = self.search.find(self.alloc, self.premises, self.mz, steps)?;
-        if found.is_some() {
-            mem::swap(&mut self.search.counts, &mut self.last);
-            self.has_given = true;
+        if !self.search.find(self.premises, steps) {
+            return Ok(None);
         }
+        let counts = self.search.counts.counts();
+        let parts = counts_of(self.alloc, self.premises.alphabet(), counts)?;
+        let found = Formula::of(self.alloc, &parts)?;
+        self.search.give(&mut self.last);
+        self.has_given = true;
         Ok(found)
+    }
+
+    /// Whether more candidates are left than a number. The enumeration stays where it is.
+    pub fn has_more_than<L: Ledger>(
+        &mut self,
+        limit: u64,
+        steps: &mut Steps<L>,
+    ) -> Result<bool, AllocError>
+        ensures more { IfOk result (λ more. more ≡ nat_lt limit (length (counts_left self.old))) }
+        ensures unchanged { self.new ≡ self.old }
+    {
+        let mut ahead = self.again()?;
+        for _ in 0..limit {
+            if !ahead.advance(steps) {
+                return Ok(false);
+            }
+        }
+        Ok(ahead.advance(steps))
+    }
+
+    /// Another enumeration that stands where this one does.
+    fn again(&self) -> Result<Candidates<'t>, AllocError>
+        ensures { IfOk result (λ c. c ≡ self.now) }
+    {
+        if !self.has_given {
+            return Candidates::start(self.alloc, self.premises, self.mz);
+        }
+        let last = Counts::of(self.alloc, self.last.counts())?;
+        Candidates::after(self.alloc, self.premises, self.mz, last)
+    }
+
+    /// Appends the report's line of the candidate given last, nothing where none was given. Without room for it the
+    /// report stays as it was.
+    pub fn push_line(&self, report: &mut Vec<u8>) -> Result<(), AllocError>
+        ensures line { OnOk result (report.new.items ≡ report.old.items ++ given_line self.now) }
+        ensures refused { OnErr result (report.new.items ≡ report.old.items) }
+    {
+        match self.token()? {
+            Some(formula) => push_formula_line(self.premises, self.mz, &formula, report),
+            None => Ok(()),
+        }
     }
 
     /// The formula of the count list given last, with which `resume` goes on. None where none was given since `start`.
@@ -169,6 +263,37 @@ impl<'t> Candidates<'t> {
         let parts = counts_of(self.alloc, self.premises.alphabet(), self.last.counts())?;
         Formula::of(self.alloc, &parts)
     }
+}
+
+/// Appends the line of a formula over its ion, nothing where the ion isn't defined.
+fn push_formula_line(
+    premises: &Ground,
+    mz: u64,
+    formula: &Formula,
+    report: &mut Vec<u8>,
+) -> Result<(), AllocError>
+    requires { HasItems premises.now.table formula.now }
+    ensures line { OnOk result (report.new.items
+        ≡ report.old.items ++ decompose_line premises.now.table formula.now premises.now.adduct mz) }
+    ensures refused { OnErr result (report.new.items ≡ report.old.items) }
+{
+    let adduct = premises.adduct();
+    let table = premises.table();
+    if ion_mass(table, formula, adduct).is_none() {
+        return Ok(());
+    }
+    push_decompose_line(report, table, formula, adduct, mz)
+}
+
+/// Room for a formula of an alphabet.
+fn empty_room(alloc: Global, alphabet: &Alphabet) -> Result<Vec<(Item, u32)>, AllocError>
+    ensures { IfOk result (λ room. length room.items ≡ length alphabet.now) }
+{
+    alphabet
+        .items()
+        .iter()
+        .map(|item| (*item, 0))
+        .collect(alloc)
 }
 
 /// The counts that a formula has of items.

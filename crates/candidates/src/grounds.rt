@@ -6,8 +6,11 @@ ghost use Rattle.alphabet_text.specs.Alphabets.{IsEntryOf};
 ghost use Rattle.adducts.specs.Adducts.{divisor_of};
 ghost use Rattle.adducts.specs.Ions.{shift_of};
 ghost use Rattle.candidates.specs.Grounds.{IsGround};
+ghost use Rattle.candidates.specs.HillOrders.{IsHillOrder};
+ghost use Rattle.candidates.specs.PeakFormulas.{items_of};
 ghost use Rattle.decompose.specs.Masses.{AreMasses};
 
+use crate::hill::HillOrder;
 use adducts::Adduct;
 use alphabet_text::Alphabet;
 use decompose::{ScaleFault, Tables};
@@ -27,6 +30,7 @@ pub struct Ground {
     rules: Rules,
     tables: Tables,
     charged: Charged,
+    hill: HillOrder,
 }
 
 impl Model for Ground {
@@ -35,6 +39,8 @@ impl Model for Ground {
     ghost use Rattle.adducts.specs.Ions.{shift_of};
     ghost use Rattle.mass_scaling.specs.Limits.{IsCharged};
     ghost use Rattle.candidates.specs.Grounds.{GroundValue, IsGround};
+    ghost use Rattle.candidates.specs.HillOrders.{IsHillOrder};
+    ghost use Rattle.candidates.specs.PeakFormulas.{items_of};
 
     ghost Value = { GroundValue };
 
@@ -59,7 +65,8 @@ impl Model for Ground {
           divisor = divisor_of g.adduct;
           shift = shift_of g.table g.adduct;
         })
-        × IsCharged g.charged };
+        × IsCharged g.charged
+        × IsHillOrder (items_of g.alphabet) g.hill };
 }
 
 impl Ground {
@@ -91,6 +98,7 @@ impl Ground {
             Err(ScaleFault::Memory) => return Err(AllocError),
             Err(ScaleFault::BaseTooHeavy) => unreachable!(),
         };
+        let hill = HillOrder::of(alloc, alphabet.items())?;
         Ok(Ground {
             table,
             alphabet,
@@ -99,6 +107,7 @@ impl Ground {
             rules,
             tables,
             charged,
+            hill,
         })
     }
 
@@ -161,5 +170,13 @@ impl Ground {
         ensures premises { IsGround self.now }
     {
         self.charged
+    }
+
+    /// The items of the alphabet in Hill order.
+    pub(crate) fn hill(&self) -> &HillOrder
+        ensures hill { IsHillOrder (items_of self.now.alphabet) result.now }
+        ensures premises { IsGround self.now }
+    {
+        &self.hill
     }
 }

@@ -12,6 +12,7 @@
 
 mod candidates;
 mod grounds;
+mod hill;
 mod search;
 
 pub use candidates::Candidates;

@@ -1,23 +1,20 @@
 //! The search for the next candidate of a peak.
-ghost use Rattle.std.specs.Prelude.{◌≡◌, ◌≤◌, ℕ, true, IfOk, IsTrue, not, length, map};
-ghost use Rattle.std.specs.List.{zip};
-ghost use Rattle.std.specs.Bool.{OnTrue, OnFalse};
-ghost use Rattle.formula_text.specs.Masses.{HasItems};
-ghost use Rattle.formula_text.specs.Formulas.{IsFormula};
-ghost use Rattle.mass_scaling.specs.declared.limits.TheConstants.{MAX_MZ};
-ghost use Rattle.adducts.specs.Ions.{ion_mass};
-ghost use Rattle.candidates.specs.PeakFormulas.{candidate_of, counts_of, is_ion_within, meets_rules};
-ghost use Rattle.candidates.specs.Searches.{IsSearch, Takes, Finds, passes, todo};
+ghost use Rattle.std.specs.Prelude.{◌≡◌, ◌≤◌, ◌<◌, ◌^◌, ℕ, true, false, nat_le, IfOk, is_some, length};
+ghost use Rattle.std.specs.List.{list_all};
+ghost use Rattle.formula_text.specs.Formulas.{IsFormula, atoms_of, formula_in, within_limits};
+ghost use Rattle.formula_text.specs.Limits.{max_atoms_of_item, max_items};
+ghost use Rattle.candidates.specs.Grounds.{IsGround};
+ghost use Rattle.candidates.specs.PeakFormulas.{counts_of};
+ghost use Rattle.candidates.specs.Searches.{Admits, IsSearch, Takes, Finds, is_formed, passes, todo};
 
 use crate::grounds::Ground;
-use adducts::ion_mass;
+use adducts::has_ion;
 use alphabet_text::Alphabet;
 use decompose::{Counts, Decomps};
-use formula_text::Formula;
-use golden_rules::Verdict;
-use mass_scaling::within;
+use formula_text::{MAX_ATOMS, MAX_ATOMS_OF_ITEM};
 use outside_ports::Steps;
 use std::alloc::{AllocError, Global};
+use std::mem;
 use std::sync::ledger::Ledger;
 use written_items::Item;
 
@@ -28,8 +25,10 @@ pub(crate) struct Search<'t> {
     pub decomps: Decomps<'t>,
     /// The count list that was taken last.
     pub counts: Counts,
-    /// Whether that is still to be tested.
+    /// Whether that is still to be tested or given.
     pub is_pending: bool,
+    /// Room for a formula, which is used again.
+    pub room: Vec<(Item, u32)>,
 }
 
 impl<'t> Search<'t> {
@@ -44,50 +43,87 @@ impl<'t> Search<'t> {
         self.is_pending
     }
 
-    /// Goes on to the next candidate. Without memory for a test, its count list is tested again in the next call.
-    pub fn find<L: Ledger>(
-        &mut self,
-        alloc: Global,
-        premises: &Ground,
-        mz: u64,
-        steps: &mut Steps<L>,
-    ) -> Result<Option<Formula>, AllocError>
-        requires some_mz { 1 ≤ mz }
-        requires few_mz { mz ≤ MAX_MZ }
+    /// Goes on to the next candidate, which is then the list taken last and still to be given; false where none is
+    /// left. Takes no memory.
+    pub fn find<L: Ledger>(&mut self, premises: &Ground, steps: &mut Steps<L>) -> bool
         requires search { IsSearch premises.now self.old }
-        ensures { Finds premises.now mz self.old self.new result }
+        ensures { (mz : ℕ) → Admits premises.now mz self.old.decomps.window
+            → Finds premises.now mz self.old self.new result }
     {
         'lists: while self.take(steps) {
-            let found = candidate_of(alloc, premises, mz, self.counts.counts())?;
-            self.is_pending = false;
-            if found.is_some() {
-                return Ok(found);
+            if is_formed(premises, self.counts.counts(), &mut self.room) {
+                return true;
             }
+            self.is_pending = false;
         }
-        Ok(None)
+        false
+    }
+
+    /// Gives the list taken last.
+    pub fn give(&mut self, last: &mut Counts)
+        ensures search { self.new ≡ record self.old { counts = last.old; is_pending = false } }
+        ensures given { last.new ≡ self.old.counts }
+    {
+        self.is_pending = false;
+        mem::swap(&mut self.counts, last);
     }
 }
 
-/// The candidate of a count list.
-fn candidate_of(
-    alloc: Global,
-    premises: &Ground,
-    mz: u64,
-    counts: &[u32],
-) -> Result<Option<Formula>, AllocError>
-    requires some_mz { 1 ≤ mz }
-    requires few_mz { mz ≤ MAX_MZ }
-    ensures { IfOk result (λ o. o ≡ candidate_of premises.now mz counts.now) }
+/// Whether the formula of a count list is one within the limits, has an ion and meets the rules. The formula is
+/// written to `room`. Takes no memory.
+fn is_formed(premises: &Ground, counts: &[u32], room: &mut [(Item, u32)]) -> bool
+    requires counts { length counts.now ≡ length premises.now.alphabet }
+    requires room { length room.old ≡ length premises.now.alphabet }
+    ensures formed { result ≡ is_formed premises.now counts.now }
+    ensures premises { IsGround premises.now }
 {
-    let parts = counts_of(alloc, premises.alphabet(), counts)?;
-    let Some(formula) = Formula::of(alloc, &parts)? else {
-        return Ok(None);
-    };
-    if passes(premises, mz, &formula) {
-        Ok(Some(formula))
-    } else {
-        Ok(None)
+    let items = premises.alphabet().items();
+    let count = premises.hill().write(items, counts, room);
+    passes(premises, &room[..count])
+}
+
+/// Whether a formula is one within the limits, has an ion and meets the rules. Takes no memory.
+fn passes(premises: &Ground, formula: &[(Item, u32)]) -> bool
+    requires few { length formula.now ≤ max_items }
+    requires formula { is_some (formula_in (within_limits formula.now)) ≡ true → IsFormula formula.now }
+    ensures { result ≡ passes premises.now formula.now }
+{
+    if !is_formula(formula) {
+        return false;
     }
+    if !has_ion(formula, premises.adduct()) {
+        return false;
+    }
+    premises.rules().are_met(premises.table(), formula)
+}
+
+/// Whether items with their counts are a formula within the limits.
+fn is_formula(items: &[(Item, u32)]) -> bool
+    requires { length items.now ≤ max_items }
+    ensures { result ≡ is_some (formula_in (within_limits items.now)) }
+{
+    if items.is_empty() {
+        return false;
+    }
+    if !has_few_of_each(items) {
+        return false;
+    }
+    atoms_in(items) <= MAX_ATOMS
+}
+
+/// Whether there are at most 10,000 atoms of each item.
+fn has_few_of_each(items: &[(Item, u32)]) -> bool
+    ensures { result ≡ list_all (λ p. nat_le p.1 max_atoms_of_item) items.now }
+{
+    items.iter().all(|(_, count)| *count <= MAX_ATOMS_OF_ITEM)
+}
+
+/// How many atoms there are.
+fn atoms_in(items: &[(Item, u32)]) -> u32
+    requires { atoms_of items.now < 2 ^ 32 }
+    ensures { result ≡ atoms_of items.now }
+{
+    items.iter().map(|(_, count)| *count).sum()
 }
 
 /// The items of an alphabet, each with its count.
@@ -104,39 +140,4 @@ pub(crate) fn counts_of(
         .zip(counts)
         .map(|(item, count)| (*item, *count))
         .collect(alloc)
-}
-
-/// Whether a formula's ion is defined and within tolerance of an m/z, and the formula meets the rules.
-fn passes(premises: &Ground, mz: u64, formula: &Formula) -> bool
-    requires some_mz { 1 ≤ mz }
-    requires few_mz { mz ≤ MAX_MZ }
-    requires known { HasItems premises.now.table formula.now }
-    ensures { result ≡ passes premises.now mz formula.now }
-{
-    is_ion_within(premises, mz, formula) && meets_rules(premises, formula)
-}
-
-/// Whether a formula's ion is defined and within tolerance of an m/z.
-fn is_ion_within(premises: &Ground, mz: u64, formula: &Formula) -> bool
-    requires some_mz { 1 ≤ mz }
-    requires few_mz { mz ≤ MAX_MZ }
-    requires known { HasItems premises.now.table formula.now }
-    ensures { result ≡ is_ion_within premises.now mz (ion_mass premises.now.table premises.now.adduct formula.now) }
-{
-    let adduct = premises.adduct();
-    match ion_mass(premises.table(), formula, adduct) {
-        None => false,
-        Some(mass) => within(mass, mz, premises.tolerance(), adduct.divisor()),
-    }
-}
-
-/// Whether a formula meets the rules.
-fn meets_rules(premises: &Ground, formula: &Formula) -> bool
-    requires known { HasItems premises.now.table formula.now }
-    ensures { result ≡ meets_rules premises.now formula.now }
-{
-    match premises.rules().holds(premises.table(), formula) {
-        Verdict::Pass => true,
-        Verdict::Fails { .. } => false,
-    }
 }

@@ -173,6 +173,52 @@ fn the_formulas_of_a_peak_come_in_order(rt: HostRuntime) -> Result<(), Fail> {
     Ok(())
 }
 
+/// Counts two candidates, and appends their lines.
+fn push_two_lines<L: Ledger>(
+    rt: &impl Abort,
+    candidates: &mut Candidates<'_>,
+    report: &mut Vec<u8>,
+    blank: Blank,
+) -> Result<(), Fail>
+    requires name { blank.name ≡ L.name }
+    requires parts { blank.parts ≡ L.parts }
+    requires some { 0 < blank.parts }
+{
+    let mut steps = Steps::<L>::new(blank);
+    assert!(rt; candidates.has_more_than(1, &mut steps)?);
+    assert!(rt; !candidates.has_more_than(2, &mut steps)?);
+    for _ in 0..2 {
+        assert!(rt; candidates.advance(&mut steps));
+        candidates.push_line(report)?;
+    }
+    assert!(rt; !candidates.advance(&mut steps));
+    assert!(rt; !candidates.has_more_than(0, &mut steps)?);
+    Ok(())
+}
+
+#[test]
+fn candidates_are_counted_and_printed_one_by_one(rt: HostRuntime) -> Result<(), Fail> {
+    let alloc = rt.alloc();
+    let case = Case {
+        alphabet: b"CHO",
+        adduct: b"M",
+        rules: b"",
+        mz: 1_000_000_000_000,
+        da: 2_000_000_000_000,
+        formulas: &[],
+    };
+    let premises = ground_of(alloc, &case)?;
+    let mut candidates = Candidates::start(alloc, &premises, 1_000_000_000_000)?;
+    let mut report = Vec::new(alloc);
+    candidates.push_line(&mut report)?;
+    push_two_lines::<Brand>(&rt, &mut candidates, &mut report, Blank::new(1))?;
+    let lines = b"formula H 1.007825032230 1.007825032230 7825032230
+formula H2 2.015650064460 2.015650064460 1015650064460
+";
+    assert_eq!(&rt; report.as_slice(), lines.as_slice());
+    Ok(())
+}
+
 #[test]
 fn a_formula_of_the_box_is_a_token_and_no_other(rt: HostRuntime) -> Result<(), Fail> {
     let alloc = rt.alloc();

@@ -1,6 +1,8 @@
 //! A list of rules, and the verdict of it on a formula.
 
 ghost use Rattle.std.specs.Prelude.{◌≡◌, ◌↔◌, ◌<◌, ◌≤◌, [], IsTrue, IfSome, length, position, not};
+ghost use Rattle.formula_text.specs.Formulas.{atoms_of};
+ghost use Rattle.formula_text.specs.Limits.{max_atoms};
 ghost use Rattle.formula_text.specs.Masses.{HasItems};
 ghost use Rattle.golden_rules.specs.Limits.{max_rules};
 ghost use Rattle.golden_rules.specs.MeetsRules.{IsVerdict};
@@ -10,7 +12,7 @@ ghost use Rattle.golden_rules.specs.declared.rules.Verdict.{Verdict};
 use crate::kinds::meets;
 use crate::rule::Rule;
 use element_table::Table;
-use formula_text::Formula;
+use formula_text::{Formula, Item};
 use std::alloc::Global;
 use std::marker::Model;
 
@@ -82,6 +84,15 @@ impl Rules {
                 rule: place as u32 + 1,
             },
         }
+    }
+
+    /// Whether items with their counts meet all rules: those of a formula, or the items of a list that have an atom.
+    /// There are at most 20,000 atoms, and the table gives the valences. Takes no memory.
+    pub fn are_met(&self, table: &Table, items: &[(Item, u32)]) -> bool
+        requires { atoms_of items.now ≤ max_atoms }
+        ensures { result ≡ meets_all table.now self.now items.now }
+    {
+        self.rules.iter().all(|rule| meets(table, items, rule))
     }
 
     /// The place of the first rule that a formula doesn't meet.

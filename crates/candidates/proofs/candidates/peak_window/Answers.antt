@@ -1,6 +1,6 @@
 use Rattle.std.proofs.Common.{refl, subst}
 use Rattle.mass_scaling.specs.Windows.{IsWindowOf, NoMassIsWithin}
-use Rattle.candidates.proofs.CandidateWindows.{window-covers, none-covers}
+use Rattle.candidates.proofs.CandidateWindows.{window-covers, none-covers, window-admits, none-admits}
 use Rattle.candidates.proofs.candidates.peak_window.Goals as goal
 
 pub returns-in-Some-clause-covers : goal.returns-in-Some-clause-covers
@@ -18,3 +18,14 @@ returns-in-None-clause-covers c =
     (subst (λ ion. NoMassIsWithin c.args.mz premises.tolerance ion) c.charged.ensures.charged
     (subst (λ t. NoMassIsWithin c.args.mz t c.charged.result) c.tolerance.ensures.tolerance
     (c.in-None.ensures.none.0 refl)))
+
+pub returns-in-None-clause-admits : goal.returns-in-None-clause-admits
+returns-in-None-clause-admits c = none-admits c.args.premises.now c.args.mz c.charged.ensures.premises
+
+pub returns-in-Some-clause-admits : goal.returns-in-Some-clause-admits
+returns-in-Some-clause-admits c =
+    let premises = c.args.premises.now in
+    window-admits premises c.args.mz c.in-Some.window
+    (subst (λ ion. IsWindowOf c.args.mz premises.tolerance ion c.in-Some.window) c.charged.ensures.charged
+    (subst (λ t. IsWindowOf c.args.mz t c.charged.result c.in-Some.window) c.tolerance.ensures.tolerance
+    c.in-Some.ensures.exact))

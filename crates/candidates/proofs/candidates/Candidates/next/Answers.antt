@@ -1,29 +1,27 @@
-use Rattle.std.proofs.Common.{◌≡◌, ℕ, true, List, ◌∷◌, Some, sym, ap, subst, ◌∙◌}
-use Rattle.std.specs.Prelude.{IfSome, is_some}
-use Rattle.std.proofs.lemmas.Bool.{false≢true}
-use Rattle.candidates.specs.Enumeration.{CandidateEnumeration, formulas_left}
-use Rattle.candidates.proofs.StandingSteps.{standing-next, next-formulas}
+use Rattle.std.proofs.Common.{sym, ap, subst, ◌∙◌}
+use Rattle.formula_text.specs.Formulas.{formula_of}
+use Rattle.candidates.specs.PeakFormulas.{counts_of}
+use Rattle.candidates.specs.Searches.{Finds}
+use Rattle.candidates.proofs.StandingSteps.{standing-next, given-formulas}
 use Rattle.candidates.proofs.candidates.Candidates.next.Goals as goal
-use Rattle.candidates.proofs.candidates.Candidates.next.Goals.{then-is_some, else-is_some}
 
-pub invariant_of-self-then-is_some : goal.invariant_of-self-then-is_some
-invariant_of-self-then-is_some g c =
-    standing-next c.self.inside.premises.now c.self.inside.mz c.self.inside.search c.find.new.self _ c.in_ok-found.found
-    c.self.inside.last c.swap.new.x c.swap.new.y c.self.invariant.1 c.in_ok-found.ensures
-    (sym c.is_some.ensures ∙ c.if-is_some.true) c.self.invariant.0 c.swap.ensures.x_after c.swap.ensures.y_after
+pub invariant_of-self-2 : goal.invariant_of-self-2
+invariant_of-self-2 g c =
+    let is = c.self.invariant.1 in
+    standing-next c.self.inside.premises.now c.self.inside.mz c.self.inside.search c.find.new.self c.give.new.self _
+    c.self.inside.last c.give.new.last is
+    (subst (Finds c.self.inside.premises.now c.self.inside.mz c.self.inside.search c.find.new.self) c.if-not-find.false
+    (c.find.ensures c.self.inside.mz is.admits)) c.self.invariant.0 c.give.ensures.search c.give.ensures.given
 
 pub returns-clause-next : goal.returns-clause-next
 returns-clause-next g c =
+    let is = c.self.invariant.1 in
     let premises = c.self.inside.premises.now in
     let mz = c.self.inside.mz in
-    let same : is_some c.in_ok-found.found ≡ true
-    → c.if-is_some.self ≡ record { premises = premises; mz = mz; given = Some c.find.new.self.counts } =
-    elim c.if-is_some.branch [
-      | then-is_some w ↦ λ _. w.self-is
-          ∙ ap (λ (l : List ℕ). record { premises = premises; mz = mz; given = Some l }) w.swap.ensures.y_after
-      | else-is_some w ↦ λ some. absurd (false≢true (sym w.if-is_some.false ∙ c.is_some.ensures ∙ some))
-    ] in
-    subst (λ (e : CandidateEnumeration). IfSome c.in_ok-found.found (λ f. formulas_left e ≡ f ∷ formulas_left c.if-is_some.self))
-    c.self.view_is
-    (next-formulas premises mz c.self.inside.search c.find.new.self _ c.in_ok-found.found c.if-is_some.self
-    c.self.invariant.1 c.in_ok-found.ensures same)
+    given-formulas premises mz c.self.inside.search c.find.new.self _ c.in_ok-found.found c.give.new.last c.args.self.now is
+    (subst (Finds premises mz c.self.inside.search c.find.new.self) c.if-not-find.false (c.find.ensures mz is.admits))
+    (c.in_ok-found.ensures.sum
+    ∙ ap formula_of (c.deref.ensures.value ∙ c.in_ok-parts.ensures
+    ∙ ap (λ counts. counts_of c.alphabet.result.now counts) c.counts-counts.ensures
+    ∙ ap (λ alphabet. counts_of alphabet c.find.new.self.counts) c.alphabet.ensures.alphabet))
+    c.give.ensures.given (sym c.self.view_is)

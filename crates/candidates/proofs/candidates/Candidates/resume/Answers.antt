@@ -1,14 +1,12 @@
-use Rattle.std.proofs.Common.{◌≡◌, length, map, Some, Err, sym, ap, subst, ◌∙◌}
-use Rattle.std.specs.Prelude.{All, Result, is_some}
+use Rattle.std.proofs.Common.{◌≡◌, map, Err, sym, ap, subst, ◌∙◌}
+use Rattle.std.specs.Prelude.{Result, is_some}
 use Rattle.std.proofs.lemmas.Result.{err_from_is_err_and}
-use Rattle.decompose.specs.CountLists.{IsLimit, IsInBox}
+use Rattle.decompose.specs.CountLists.{IsInBox}
 use Rattle.decompose.specs.declared.faults.ResumeFault.{ResumeFault}
 use Rattle.decompose.specs.declared.faults.ResumeFault.TheVariants.{NotInBox, Memory}
 use Rattle.candidates.specs.PeakFormulas.{limits_of, items_of, counts_in, counts_of}
 use Rattle.formula_text.specs.Formulas.{formula_of, count_in}
 use Rattle.candidates.specs.Tokens.{IsInAlphabetBox}
-use Rattle.candidates.proofs.AlphabetMasses.{are_limits, count-entries, count-items}
-use Rattle.candidates.proofs.StandingSteps.{standing-made}
 use Rattle.candidates.proofs.TokenCounts.{token-formula}
 use Rattle.candidates.proofs.candidates.Candidates.resume.Goals as goal
 
@@ -23,39 +21,27 @@ returns-in_err-last-clause-not_in_box c =
     subst (λ a. IsInAlphabetBox a c.args.after.now) c.alphabet-alphabet.ensures.alphabet within in
     (λ e _. not_both c.from_residual.result (p.1 ∙ ap Err p.2) e, λ no. absurd (no here))
 
-pub returns-in_err-counts-clause-not_in_box : goal.returns-in_err-counts-clause-not_in_box
-returns-in_err-counts-clause-not_in_box c =
-    let p = err_from_is_err_and c.from_residual-in_err-counts.result c.from_residual-in_err-counts.ensures.1 in
+pub returns-in_err-after-clause-not_in_box : goal.returns-in_err-after-clause-not_in_box
+returns-in_err-after-clause-not_in_box c =
+    let p = err_from_is_err_and c.from_residual-in_err-after.result c.from_residual-in_err-after.ensures.1 in
     let within = c.is_in_box.ensures.in_box.0 c.if-not-is_in_box.false in
     let here : IsInAlphabetBox c.args.premises.now.alphabet c.args.after.now =
     subst (λ a. IsInAlphabetBox a c.args.after.now) c.alphabet-alphabet.ensures.alphabet within in
-    (λ e _. not_both c.from_residual-in_err-counts.result (p.1 ∙ ap Err p.2) e, λ no. absurd (no here))
+    (λ e _. not_both c.from_residual-in_err-after.result (p.1 ∙ ap Err p.2) e, λ no. absurd (no here))
 
-pub resume-requires-clause-limits : goal.resume-requires-clause-limits
-resume-requires-clause-limits c =
-    subst (All IsLimit) (sym c.limits.ensures.limits) (are_limits c.alphabet-alphabet.result.now c.limits.ensures.alphabet)
-
-pub invariant_of-result : goal.invariant_of-result
-invariant_of-result c =
+pub after-requires-clause-token : goal.after-requires-clause-token
+after-requires-clause-token c =
     let premises = c.args.premises.now in
     let formula = c.args.after.now in
     let same = c.alphabet-alphabet.ensures.alphabet in
     let last : c.in_ok-last.last ≡ counts_in premises.alphabet formula =
     c.in_ok-last.ensures ∙ ap (map (count_in formula)) (c.items.ensures.items ∙ ap items_of same) in
     let within = c.is_in_box.ensures.in_box.0 c.if-not-is_in_box.false in
-    let here : IsInAlphabetBox premises.alphabet formula = subst (λ a. IsInAlphabetBox a formula) same within in (
-      ap length last ∙ count-items premises.alphabet formula,
-      standing-made premises c.args.mz c.in_ok-decomps.decomps c.in_ok-counts.counts c.tables.result.now
-          c.limits.result.now c.peak_window-window.result (Some c.in_ok-last.last) c.alphabet-alphabet.ensures.premises
-          c.requires.some_mz c.requires.few_mz c.in_ok-decomps.ensures.resumed c.tables.ensures.tables
-          (c.limits.ensures.limits ∙ ap limits_of same) c.peak_window-window.ensures.covers
-          (count-entries premises.alphabet c.alphabet-alphabet.result.now c.items-2.result.now c.in_ok-counts.counts same
-          c.items-2.ensures.items c.in_ok-counts.ensures)
-          (record {
-            in_box = subst (IsInBox (limits_of premises.alphabet)) (sym last) here.counts;
-            is_formula =
-                ap (λ cs. is_some (formula_of (counts_of premises.alphabet cs))) last
-                ∙ ap is_some (token-formula premises.alphabet formula c.alphabet-alphabet.ensures.premises.is_alphabet
-                c.is_in_box.ensures.formula here.items);
-          }),
-    )
+    let here : IsInAlphabetBox premises.alphabet formula = subst (λ a. IsInAlphabetBox a formula) same within in
+    record {
+      in_box = subst (IsInBox (limits_of premises.alphabet)) (sym last) here.counts;
+      is_formula =
+          ap (λ cs. is_some (formula_of (counts_of premises.alphabet cs))) last
+          ∙ ap is_some (token-formula premises.alphabet formula c.alphabet-alphabet.ensures.premises.is_alphabet
+          c.is_in_box.ensures.formula here.items);
+    }

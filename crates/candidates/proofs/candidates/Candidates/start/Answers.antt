@@ -1,4 +1,4 @@
-use Rattle.std.proofs.Common.{sym, ap, subst, ◌∙◌}
+use Rattle.std.proofs.Common.{length, sym, ap, subst, ◌∙◌}
 use Rattle.std.specs.Prelude.{All, None}
 use Rattle.decompose.specs.CountLists.{IsLimit}
 use Rattle.candidates.specs.PeakFormulas.{limits_of}
@@ -12,14 +12,16 @@ start-requires-clause-limits c =
 
 pub invariant_of-result : goal.invariant_of-result
 invariant_of-result c =
-    let premises = c.args.premises.now in (
-      count-entries premises.alphabet c.alphabet-alphabet.result.now c.items-2.result.now c.in_ok-last.last
-          c.alphabet-alphabet.ensures.alphabet c.items-2.ensures.items c.in_ok-last.ensures,
+    let premises = c.args.premises.now in
+    let same = c.alphabet-alphabet.ensures.alphabet in (
+      count-entries premises.alphabet c.alphabet-alphabet.result.now c.items-size.result.now c.in_ok-last.last same
+          c.items-size.ensures.items c.in_ok-last.ensures,
       standing-made premises c.args.mz c.in_ok-decomps.decomps c.in_ok-counts.counts c.tables.result.now
-          c.limits.result.now c.peak_window-window.result None c.alphabet-alphabet.ensures.premises c.requires.some_mz
-          c.requires.few_mz c.in_ok-decomps.ensures.start c.tables.ensures.tables
-          (c.limits.ensures.limits ∙ ap limits_of c.alphabet-alphabet.ensures.alphabet)
-          c.peak_window-window.ensures.covers
-          (count-entries premises.alphabet c.alphabet-alphabet.result.now c.items.result.now c.in_ok-counts.counts
-          c.alphabet-alphabet.ensures.alphabet c.items.ensures.items c.in_ok-counts.ensures) tt,
+          c.limits.result.now c.peak_window-window.result c.in_ok-room.room None c.alphabet-alphabet.ensures.premises
+          c.requires.some_mz c.requires.few_mz c.in_ok-decomps.ensures.start c.tables.ensures.tables
+          (c.limits.ensures.limits ∙ ap limits_of same)
+          c.peak_window-window.ensures.covers c.peak_window-window.ensures.admits
+          (count-entries premises.alphabet c.alphabet-alphabet.result.now c.items-size.result.now c.in_ok-counts.counts
+          same c.items-size.ensures.items c.in_ok-counts.ensures)
+          (c.in_ok-room.ensures ∙ ap length same) tt,
     )

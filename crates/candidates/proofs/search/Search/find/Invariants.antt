@@ -4,7 +4,7 @@ use Rattle.candidates.proofs.SearchSteps.{SoFar}
 use Rattle.candidates.proofs.search.Search.find.Given as goal
 
 abbrev pub invariant-lists : goal.invariant-lists
-invariant-lists g l = SoFar l.premises l.mz l.initial.self l.self
+invariant-lists g l = SoFar l.premises l.initial.self l.self
 
 abbrev pub decreases-lists : goal.decreases-lists
 decreases-lists g l = length (todo l.self)

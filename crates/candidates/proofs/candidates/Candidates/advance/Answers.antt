@@ -1,0 +1,25 @@
+use Rattle.std.proofs.Common.{◌∷◌, Some, sym, ap, subst, ◌∙◌}
+use Rattle.candidates.specs.Enumeration.{counts_left}
+use Rattle.candidates.specs.PeakFormulas.{formulas_of_peak}
+use Rattle.decompose.specs.Enumeration.{after_given}
+use Rattle.candidates.specs.Searches.{Finds}
+use Rattle.candidates.proofs.StandingSteps.{standing-next, given-next}
+use Rattle.candidates.proofs.candidates.Candidates.advance.Goals as goal
+
+pub invariant_of-self-2 : goal.invariant_of-self-2
+invariant_of-self-2 g c =
+    let is = c.self.invariant.1 in
+    standing-next c.self.inside.premises.now c.self.inside.mz c.self.inside.search c.find.new.self c.give.new.self _
+    c.self.inside.last c.give.new.last is
+    (subst (Finds c.self.inside.premises.now c.self.inside.mz c.self.inside.search c.find.new.self) c.if-not-find.false
+    (c.find.ensures c.self.inside.mz is.admits)) c.self.invariant.0 c.give.ensures.search c.give.ensures.given
+
+pub returns-clause-next : goal.returns-clause-next
+returns-clause-next g c =
+    let is = c.self.invariant.1 in
+    let premises = c.self.inside.premises.now in
+    let mz = c.self.inside.mz in
+    ap counts_left (sym c.self.view_is)
+    ∙ given-next premises mz c.self.inside.search c.find.new.self _ is
+    (subst (Finds premises mz c.self.inside.search c.find.new.self) c.if-not-find.false (c.find.ensures mz is.admits))
+    ∙ ap (λ cs. cs ∷ after_given (formulas_of_peak premises mz) (Some cs)) (sym c.give.ensures.given)

@@ -1,0 +1,27 @@
+use Rattle.std.proofs.Common.{length, sym, ap, subst, ◌∙◌}
+use Rattle.std.specs.Prelude.{All, Some}
+use Rattle.decompose.specs.CountLists.{IsLimit}
+use Rattle.candidates.specs.PeakFormulas.{limits_of}
+use Rattle.candidates.proofs.AlphabetMasses.{are_limits, count-entries, box-length}
+use Rattle.candidates.proofs.StandingSteps.{standing-made}
+use Rattle.candidates.proofs.candidates.Candidates.after.Goals as goal
+
+pub resume-requires-clause-limits : goal.resume-requires-clause-limits
+resume-requires-clause-limits c =
+    subst (All IsLimit) (sym c.limits-limits.ensures.limits)
+    (are_limits c.alphabet-alphabet.result.now c.limits-limits.ensures.alphabet)
+
+pub invariant_of-result : goal.invariant_of-result
+invariant_of-result c =
+    let premises = c.args.premises.now in
+    let same = c.alphabet-alphabet.ensures.alphabet in (
+      box-length premises.alphabet c.args.last c.requires.token.in_box,
+      standing-made premises c.args.mz c.in-Ok.decomps c.in_ok-counts.counts c.tables.result.now
+          c.limits-limits.result.now c.peak_window-window.result c.in_ok-room.room (Some c.args.last)
+          c.alphabet-alphabet.ensures.premises c.requires.some_mz c.requires.few_mz c.in-Ok.ensures.resumed
+          c.tables.ensures.tables (c.limits-limits.ensures.limits ∙ ap limits_of same)
+          c.peak_window-window.ensures.covers c.peak_window-window.ensures.admits
+          (count-entries premises.alphabet c.alphabet-alphabet.result.now c.items.result.now c.in_ok-counts.counts same
+          c.items.ensures.items c.in_ok-counts.ensures)
+          (c.in_ok-room.ensures ∙ ap length same) c.requires.token,
+    )
