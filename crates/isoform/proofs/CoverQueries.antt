@@ -1,35 +1,36 @@
--- A cover that was given is the one that its query asks for, and what it claims holds.
-use Rattle.std.proofs.Common.{◌≡◌, ℕ, Bool, true, false, cond, List, map, refl, sym, ap, ◌∙◌, subst}
-use Rattle.std.specs.Prelude.{Result, Ok, Err, All}
+-- A cover that was given is the one that its query asks for, what it claims holds, and its masses can be printed.
+use Rattle.std.proofs.Common.{◌≡◌, ℕ, ◌+◌, ◌*◌, ◌^◌, ◌<◌, ◌≤◌, Bool, true, false, cond, List, length, take, get_or, map, refl, sym, ap, ◌∙◌, subst, arith, lit≤, le_trans}
+use Rattle.std.specs.Prelude.{ℤ, pos, ◌+ℤ◌, Result, Ok, Err, All, sum}
+use Rattle.std.proofs.lemmas.Int.{ints}
 use Rattle.reader_answers.specs.Answers.{◌>>=◌}
 use Rattle.element_table.specs.Elements.{TableEntries}
 use Rattle.written_items.specs.declared.item.Item.{Item}
 use Rattle.multinomial_bounds.specs.Bounds.{IsEnclosure}
 use Rattle.multinomial_bounds.specs.Isotopologue.{isotopologue_weight, all_weight}
 use Rattle.isotopologue_sets.specs.Covers.{IsCover}
-use Rattle.isotopologue_sets.specs.Layers.{is_wide}
+use Rattle.isotopologue_sets.specs.Layers.{has_too_many, last_threshold_for}
 use Rattle.isotopologue_text.specs.Isotopologues.{formula_elements}
 use Rattle.reaching_layer.specs.declared.fault.CoverFault.{CoverFault}
-use Rattle.reaching_layer.specs.declared.fault.CoverFault.TheVariants.{Wide}
-use Rattle.formula_text.specs.declared.fault.FormulaFault.{FormulaFault}
-use Rattle.formula_text.specs.FormulaReader.{read_of}
-use Rattle.cover_certificate.specs.FormulaCovers.{CoverEntries, cover_of, cover_unless_wide, member_numbers}
-use Rattle.isoform.specs.Answer.{envelope_over}
+use Rattle.reaching_layer.specs.declared.fault.CoverFault.TheVariants.{TooMany}
+use Rattle.cover_certificate.specs.FormulaCovers.{CoverEntries, cover_of, cover_unless_too_many, member_numbers}
+use Rattle.isoform.specs.Answer.{cover_query}
 use Rattle.isoform.specs.Claims.{HoldsTrue}
 use Rattle.isoform.specs.Queries.{CoverQuery}
-use Rattle.isoform.specs.Refusals.{of_cover_fault, of_formula_fault, or_fault_as}
+use Rattle.isoform.specs.Refusals.{or_fault_as}
 use Rattle.isoform.specs.declared.input_fault.InputFault.{InputFault}
+use Rattle.isoform.specs.declared.input_fault.InputFault.TheVariants.{Layer}
 
-given_cover : (wide : Bool) (cover given : CoverEntries) →
-    (let answer : Result CoverEntries CoverFault = cond wide (Err Wide) (Ok cover) in answer) ≡ Ok given →
+given_cover : (many : Bool) (threshold : ℕ) (cover given : CoverEntries) →
+    (let answer : Result CoverEntries CoverFault = cond many (Err (TooMany threshold)) (Ok cover) in answer) ≡ Ok given →
     cover ≡ given
-given_cover true cover given is = cc
-given_cover false cover given is = cc
+given_cover true threshold cover given is = cc
+given_cover false threshold cover given is = cc
 
 pub is_cover_of : (table : TableEntries) (formula : List (Item × ℕ)) (coverage : ℕ) (given : CoverEntries) →
-    cover_unless_wide table formula coverage ≡ Ok given → cover_of table formula coverage ≡ given
+    cover_unless_too_many table formula coverage ≡ Ok given → cover_of table formula coverage ≡ given
 is_cover_of table formula coverage given is =
-    given_cover (is_wide (formula_elements table formula)) (cover_of table formula coverage) given is
+    let last : ℕ = last_threshold_for (formula_elements table formula) coverage in
+    given_cover (has_too_many (formula_elements table formula) last) last (cover_of table formula coverage) given is
 
 -- it has the formula and the coverage
 formula-cover_of : (table : TableEntries) (formula : List (Item × ℕ)) (coverage : ℕ) →
@@ -76,19 +77,23 @@ holds_of_given table formula coverage given is claims encloses =
       },
     )
 
--- the query of a formula that was read and has a cover
-pub query_of_given : (table : TableEntries) (text : List ℕ) (formula : List (Item × ℕ)) (coverage : ℕ)
-    (given : CoverEntries) → read_of table text ≡ Ok formula → cover_unless_wide table formula coverage ≡ Ok given →
-    envelope_over text coverage table
-    ≡ Ok (record { table = table; formula = given.formula; coverage = given.coverage })
-query_of_given table text formula coverage given read is =
-    let covered : cover_of table formula coverage ≡ given = is_cover_of table formula coverage given is in
-    ap (λ (r : Result (List (Item × ℕ)) FormulaFault). or_fault_as of_formula_fault r
-    >>= λ f. or_fault_as (of_cover_fault f) (cover_unless_wide table f coverage)
-    >>= λ c. Ok (record { table = table; formula = f; coverage = coverage })) read
-    ∙ ap (λ (r : Result CoverEntries CoverFault). or_fault_as (of_cover_fault formula) r
-    >>= λ c. Ok (record { table = table; formula = formula; coverage = coverage })) is
-    ∙ ap (λ f. Ok (record { table = table; formula = f; coverage = coverage }))
-    (given_formula table formula coverage given covered)
-    ∙ ap (λ c. Ok (record { table = table; formula = given.formula; coverage = c }))
-    (given_coverage table formula coverage given covered)
+-- the query of an ion that has a cover
+pub query_of_given : (table : TableEntries) (ion : List (Item × ℕ)) (shift : ℤ) (coverage : ℕ) (given : CoverEntries) →
+    cover_unless_too_many table ion coverage ≡ Ok given →
+    cover_query table ion shift coverage
+    ≡ Ok (record { table = table; ion = given.formula; shift = shift; coverage = given.coverage })
+query_of_given table ion shift coverage given is =
+    let covered : cover_of table ion coverage ≡ given = is_cover_of table ion coverage given is in
+    ap (λ (r : Result CoverEntries CoverFault). or_fault_as (λ fault. Layer ion) r
+    >>= λ c. Ok (record { table = table; ion = ion; shift = shift; coverage = coverage })) is
+    ∙ ap (λ f. Ok (record { table = table; ion = f; shift = shift; coverage = coverage }))
+    (given_formula table ion coverage given covered)
+    ∙ ap (λ c. Ok (record { table = table; ion = given.formula; shift = shift; coverage = c }))
+    (given_coverage table ion coverage given covered)
+
+-- an ion that has none
+pub query_of_fault : (table : TableEntries) (ion : List (Item × ℕ)) (shift : ℤ) (coverage : ℕ) (fault : CoverFault) →
+    cover_unless_too_many table ion coverage ≡ Err fault → cover_query table ion shift coverage ≡ Err (Layer ion)
+query_of_fault table ion shift coverage fault is =
+    ap (λ (r : Result CoverEntries CoverFault). or_fault_as (λ fault. Layer ion) r
+    >>= λ c. Ok (record { table = table; ion = ion; shift = shift; coverage = coverage })) is

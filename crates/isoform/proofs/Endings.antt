@@ -10,16 +10,15 @@ use Rattle.command_words.specs.WordReading as words
 use Rattle.command_words.specs.declared.request.Request.{Request}
 use Rattle.command_words.specs.declared.fault.WordsFault.{WordsFault}
 use Rattle.command_words.specs.declared.fault.WordsFault.TheVariants as words_fault
-use Rattle.isoform.specs.Answer.{Outcome, Formulas, Cover, IsReport, answer, answer_of_request, cover_report, formulas_report, file_names, names_if, names_of_request}
-use Rattle.isoform.specs.Asked.{Asked, Names, asked_as, asks_none, asks_next, result_as, ◌and_then◌}
+use Rattle.isoform.specs.Answer.{Outcome, Formulas, Cover, IsReport, answer, answer_if, answer_of_request, file_names, names_if, names_of_request}
+use Rattle.isoform.specs.Asked.{Asked, Names, asked_as, result_as}
 use Rattle.isoform.specs.Claims.{Holds}
-use Rattle.isoform.specs.Refusals.{of_words_fault, or_fault_as, refusal_of}
-use Rattle.isoform.specs.Outside.{AnswersAs, AsksNames, Ending, EndsAs, IsPut, IsTold, NoWriteFault, Outside, Puts, Reads, ReceivesAll, ReceivesSome, ReceivesSomeOf, Shows, outside}
-use Rattle.isoform.specs.declared.input_fault.InputFault.{InputFault}
-use Rattle.isoform.specs.declared.input_fault.InputFault.TheVariants as input
+use Rattle.isoform.specs.Refusals.{of_words_fault}
+use Rattle.isoform.specs.Reports.{cover_report, formulas_report}
+use Rattle.isoform.specs.Outside.{AnswersAs, AsksNames, Ending, EndsAs, IsPart, IsPut, IsTold, NoWordsFault, OnlyReads, Outside, Puts, Reads, ReceivesAll, ReceivesSome, ReceivesSomeOf, RefusesWords, Shelved, Shows, outside}
 use Rattle.isoform.specs.declared.refusal.Refusal.{Refusal}
-use Rattle.isoform.specs.declared.refusal.Refusal.TheVariants.{Input, ReadFault, WriteFault, Memory}
-use Rattle.isoform.proofs.PartLaws.{all_names}
+use Rattle.isoform.specs.declared.refusal.Refusal.TheVariants.{Words, Input, ReadFault, WriteFault, Memory}
+use Rattle.isoform.proofs.PartLaws.{all_names, if_some_map}
 
 -- each outcome has a report
 some_report : (outcome : Outcome) → (report : List ℕ) × IsReport outcome report
@@ -49,12 +48,13 @@ unread_shows names before after fb fa received out_faults (ReadFault name) reads
     record { asks = reads.asks; reads = reads.counts; writes = refl; receives = refl }
 unread_shows names before after fb fa received out_faults Memory reads =
     record { asks = reads.asks; reads = reads.counts; writes = refl; receives = tt }
-unread_shows names before after fb fa received out_faults WriteFault reads = absurd reads.writes_nothing
+unread_shows names before after fb fa received out_faults WriteFault reads = absurd reads.only_reads
+unread_shows names before after fb fa received out_faults (Words fault) reads = absurd reads.only_reads
 
 -- the same, as the answer says it
 pub unread_ends : {X A : Type 0} (outcome : A → Outcome) (view : X → A) (expected : Asked A)
     (before after : Names) (faults_before faults_after : ℕ) (received : Option (List ℕ)) (out_faults : ℕ)
-    (refusal : Refusal) → NoWriteFault {X = X} (Err refusal) → AnswersAs view expected before after (Err refusal) →
+    (refusal : Refusal) → OnlyReads {X = X} (Err refusal) → AnswersAs view expected before after (Err refusal) →
     EndsAs (asked_as outcome expected) (outside before faults_before received out_faults)
     (outside after faults_after received out_faults) (Err refusal)
 unread_ends outcome view expected before after fb fa received out_faults (Input fault) other answers =
@@ -63,6 +63,7 @@ unread_ends outcome view expected before after fb fa received out_faults (ReadFa
 unread_ends outcome view expected before after fb fa received out_faults Memory other answers =
     (nothing_received (result_as outcome expected.result) received, answers)
 unread_ends outcome view expected before after fb fa received out_faults WriteFault other answers = absurd other
+unread_ends outcome view expected before after fb fa received out_faults (Words fault) other answers = absurd other
 
 -- what was read was served: the report was put, or some of it
 pub written_shows : {X : Type 0} (names before after : Names) (faults_before faults_after : ℕ) (x : X) (text : List ℕ)
@@ -85,6 +86,7 @@ written_shows names before after fb fa x text rb ra ob oa (Err Memory) reads put
   writes = puts.1;
   receives = tt;
 }
+written_shows names before after fb fa x text rb ra ob oa (Err (Words fault)) reads puts = absurd puts
 written_shows names before after fb fa x text rb ra ob oa (Err (Input fault)) reads puts = absurd puts
 written_shows names before after fb fa x text rb ra ob oa (Err (ReadFault name)) reads puts = absurd puts
 
@@ -109,31 +111,66 @@ written_ends outcome view expected before after fb fa x text rb ra ob oa (Err Me
   rw answers.0 (some_received (outcome (view x)) text rb ra is puts.0),
   all_names expected.names before after answers.1,
 )
+written_ends outcome view expected before after fb fa x text rb ra ob oa (Err (Words fault)) answers holds is puts =
+    absurd puts
 written_ends outcome view expected before after fb fa x text rb ra ob oa (Err (Input fault)) answers holds is puts =
     absurd puts
 written_ends outcome view expected before after fb fa x text rb ra ob oa (Err (ReadFault name)) answers holds is puts =
     absurd puts
 
 -- what a request shows, its words show
-pub words_show : (given : Names) (request : Request) (before after : Outside) (ending : Ending) →
+pub words_show : (given : List (List ℕ)) (request : Request) (before after : Outside) (ending : Ending) →
     request_of given ≡ Ok request → Shows (names_of_request request) before after ending →
     Shows (file_names given) before after ending
 words_show given request before after ending is shows =
     subst (λ (r : Result Request WordsFault). Shows (names_if r) before after ending) (sym is) shows
 
-pub words_end : (given : Names) (files : Files) (request : Request) (before after : Outside) (ending : Ending) →
+pub words_end : (given : List (List ℕ)) (files : Files) (request : Request) (before after : Outside) (ending : Ending) →
     request_of given ≡ Ok request → EndsAs (answer_of_request request files) before after ending →
     EndsAs (answer given files) before after ending
 unfolding answer
 words_end given files request before after ending is ends =
-    subst (λ (r : Result Request WordsFault).
-    EndsAs (asks_none (or_fault_as of_words_fault r) and_then λ q. answer_of_request q files) before after ending)
-    (sym is) ends
+    subst (λ (r : Result Request WordsFault). EndsAs (answer_if r files) before after ending) (sym is) ends
 
--- words that are refused ask for no file
-pub refused_words_show : (names : Names) (before : Outside) (fault : InputFault) →
-    Shows names before before (Err (refusal_of fault))
-refused_words_show names before input.Memory = record {
+-- no fault of the words comes of what reads, or of what writes
+pub reads_no_words : (X : Type 0) (refusal : Refusal) → OnlyReads {X = X} (Err refusal) → NoWordsFault {X = Unit {0}} (Err refusal)
+reads_no_words X (Words fault) only = absurd only
+reads_no_words X (Input fault) only = tt
+reads_no_words X (ReadFault name) only = tt
+reads_no_words X WriteFault only = tt
+reads_no_words X Memory only = tt
+
+pub puts_no_words : (text : List ℕ) (before after : Option (List ℕ)) (faults_before faults_after : ℕ)
+    (ending : Ending) → Puts text before after faults_before faults_after ending → NoWordsFault ending
+puts_no_words text before after fb fa (Ok done) puts = tt
+puts_no_words text before after fb fa (Err (Words fault)) puts = absurd puts
+puts_no_words text before after fb fa (Err (Input fault)) puts = absurd puts
+puts_no_words text before after fb fa (Err (ReadFault name)) puts = absurd puts
+puts_no_words text before after fb fa (Err WriteFault) puts = tt
+puts_no_words text before after fb fa (Err Memory) puts = tt
+
+-- words that are a request are refused for no fault of their own
+pub words_stand : (given : List (List ℕ)) (request : Request) (ending : Ending) → request_of given ≡ Ok request →
+    NoWordsFault ending → RefusesWords (request_of given) ending
+words_stand given request ending is served =
+    subst (λ (r : Result Request WordsFault). RefusesWords r ending) (sym is) served
+
+memory_refuses : (request : Result Request WordsFault) → RefusesWords request (Err Memory)
+memory_refuses (Ok request) = tt
+memory_refuses (Err fault) = inr refl
+
+-- words that are refused are refused as their reading says
+pub words_refused : (given : List (List ℕ)) (fault : WordsFault) →
+    MatchBool (words.is_memory fault) ⊤ (request_of given ≡ Err fault) →
+    RefusesWords (request_of given) (Err (of_words_fault fault))
+words_refused given words_fault.Memory refused = memory_refuses (request_of given)
+words_refused given fault refused =
+    subst (λ (r : Result Request WordsFault). RefusesWords r (Err (of_words_fault fault))) (sym refused) (inl refl)
+
+-- and they ask for no file
+pub refused_words_show : (names : Names) (before : Outside) (fault : WordsFault) →
+    Shows names before before (Err (of_words_fault fault))
+refused_words_show names before words_fault.Memory = record {
   asks = (0, sym (append-nil before.asked));
   reads = omega arith;
   writes = refl;
@@ -142,16 +179,14 @@ refused_words_show names before input.Memory = record {
 refused_words_show names before fault =
     record { asks = (0, sym (append-nil before.asked)); reads = refl; writes = refl; receives = refl }
 
-pub refused_words_end : (given : Names) (files : Files) (before : Outside) (fault : WordsFault) →
+pub refused_words_end : (given : List (List ℕ)) (files : Files) (before : Outside) (fault : WordsFault) →
     MatchBool (words.is_memory fault) ⊤ (request_of given ≡ Err fault) →
-    EndsAs (answer given files) before before (Err (refusal_of (of_words_fault fault)))
+    EndsAs (answer given files) before before (Err (of_words_fault fault))
 unfolding answer
 refused_words_end given files before words_fault.Memory refused =
     (nothing_received (answer given files).result before.received, (0, sym (append-nil before.asked)))
 refused_words_end given files before fault refused =
-    subst (λ (r : Result Request WordsFault).
-    EndsAs (asks_none (or_fault_as of_words_fault r) and_then λ q. answer_of_request q files) before before
-    (Err (refusal_of (of_words_fault fault))))
+    subst (λ (r : Result Request WordsFault). EndsAs (answer_if r files) before before (Err (of_words_fault fault)))
     (sym refused) (refl, sym (append-nil before.asked))
 
 -- memory for the note ran out behind another refusal
@@ -162,6 +197,12 @@ memory_behind names before after Memory other shows = shows
 memory_behind names before after (ReadFault name) other shows = record {
   asks = (shows.asks.0 + 1, shows.asks.2);
   reads = shows.reads.1;
+  writes = shows.writes;
+  receives = tt;
+}
+memory_behind names before after (Words fault) other shows = record {
+  asks = shows.asks;
+  reads = omega (arith, shows.reads);
   writes = shows.writes;
   receives = tt;
 }
@@ -193,10 +234,22 @@ memory_ends answered names before after WriteFault other shows ends = absurd (ot
 memory_ends answered names before after Memory other shows ends = ends
 memory_ends answered names before after (ReadFault name) other shows ends =
     (received_nothing answered.result before.received after.received shows.receives, ends)
+memory_ends answered names before after (Words fault) other shows ends = (
+  received_nothing answered.result before.received after.received shows.receives,
+  all_names answered.names before.asked after.asked ends.1,
+)
 memory_ends answered names before after (Input fault) other shows ends = (
   received_nothing answered.result before.received after.received shows.receives,
   all_names answered.names before.asked after.asked ends.1,
 )
+
+-- what was told refuses the words where what came does
+pub told_refuses : (request : Result Request WordsFault) (came told : Refusal) → IsTold came told →
+    RefusesWords request (Err came) → RefusesWords request (Err told)
+told_refuses request came told (inl same) refuses =
+    subst (λ (r : Refusal). RefusesWords request (Err r)) (sym same) refuses
+told_refuses request came told (inr memory) refuses =
+    subst (λ (r : Refusal). RefusesWords request (Err r)) (sym memory.0) (memory_refuses request)
 
 -- the same, as the answer says it
 pub told_ends : (answered : Asked Outcome) (names : Names) (before after : Outside) (came told : Refusal) →

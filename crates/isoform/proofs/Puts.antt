@@ -8,7 +8,7 @@ use Rattle.std.specs.Io.KnownBytes.{append_known}
 use Rattle.outside_ports.specs.Faults.{Rose}
 use Rattle.isoform.specs.Outside.{Ending, Puts}
 use Rattle.isoform.specs.declared.refusal.Refusal.{Refusal}
-use Rattle.isoform.specs.declared.refusal.Refusal.TheVariants.{Input, ReadFault, WriteFault, Memory}
+use Rattle.isoform.specs.declared.refusal.Refusal.TheVariants.{Words, Input, ReadFault, WriteFault, Memory}
 
 -- one text behind another
 append_known-append : (known : Option (List ℕ)) (first second : List ℕ) →
@@ -48,6 +48,7 @@ puts_next first second before middle after fb fm fa (Err WriteFault) one two = (
 )
 puts_next first second before middle after fb fm fa (Err Memory) one two =
     (taken_behind first second before middle after one.0 two.0, two.1 ∙ one.1)
+puts_next first second before middle after fb fm fa (Err (Words fault)) one two = absurd two
 puts_next first second before middle after fb fm fa (Err (Input fault)) one two = absurd two
 puts_next first second before middle after fb fm fa (Err (ReadFault name)) one two = absurd two
 
@@ -66,6 +67,7 @@ pub puts_stop : (first second : List ℕ) (before after : Option (List ℕ)) (fa
 puts_stop first second before after fb fa WriteFault one =
     (taken_before first second before after one.0, one.1, one.2)
 puts_stop first second before after fb fa Memory one = (taken_before first second before after one.0, one.1)
+puts_stop first second before after fb fa (Words fault) one = absurd one
 puts_stop first second before after fb fa (Input fault) one = absurd one
 puts_stop first second before after fb fa (ReadFault name) one = absurd one
 

@@ -1,20 +1,24 @@
 -- The program's answer: what is to be printed for its words and the files, or the first refusal.
-use Rattle.std.specs.Prelude.{◌≡◌, ℕ, pos, List, [], ◌∷◌, Result, Ok, Err}
+use Rattle.std.specs.Prelude.{◌≡◌, ℕ, ℤ, pos, ◌-ℤ◌, ◌*ℤ◌, List, [], ◌∷◌, ◌++◌, Option, Result, Ok, Err}
 use Rattle.reader_answers.specs.Answers.{◌>>=◌}
 use Rattle.outside_ports.specs.Files.{Files}
-use Rattle.mass_scaling.specs.declared.tolerances.Tolerance.{Tolerance}
 use Rattle.element_table.specs.Elements.{TableEntries}
-use Rattle.cover_certificate.specs.FormulaCovers.{CoverEntries, cover_of, cover_unless_wide}
-use Rattle.report_text.specs.ReportLines.{envelope_text}
+use Rattle.written_items.specs.declared.item.Item.{Item}
+use Rattle.adducts.specs.Adducts.{AdductValue}
+use Rattle.candidates.specs.Grounds.{GroundValue}
 use Rattle.command_words.specs.WordReading.{request_of}
+use Rattle.command_words.specs.declared.fault.WordsFault.{WordsFault}
 use Rattle.command_words.specs.declared.request.Request.{Request}
 use Rattle.command_words.specs.declared.request.Request.TheVariants.{Decompose, Envelope}
-use Rattle.isoform.specs.Asked.{Asked, asked_as, asks_none, ◌and_then◌}
-use Rattle.isoform.specs.PeakFormulas.{asked_formulas, formulas_of_peak, within_limit}
+use Rattle.isoform.specs.Asked.{Asked, Names, asked_as, asks_none, ◌and_then◌}
+use Rattle.isoform.specs.PageFormulas.{within_limit}
 use Rattle.isoform.specs.Queries.{CoverQuery, FormulaQuery}
-use Rattle.isoform.specs.Refusals.{or_fault_as, of_words_fault, of_cover_fault}
-use Rattle.isoform.specs.Reports.{decompose_report}
-use Rattle.isoform.specs.Steps.{table_step, alphabet_step, formula_step}
+use Rattle.isoform.specs.Refusals.{of_words_fault}
+use Rattle.isoform.specs.Reports.{cover_report, formulas_report}
+use Rattle.isoform.specs.Steps.{adduct_step, cover_step, ground_step, ion_step, peaks_names, peaks_step}
+use Rattle.isoform.specs.Steps.{rules_names, table_step, token_step, tracer_names, tracer_step}
+use Rattle.isoform.specs.declared.decomposition.DecomposeOptions.{DecomposeOptions}
+use Rattle.isoform.specs.declared.envelope.EnvelopeOptions.{EnvelopeOptions}
 use Rattle.isoform.specs.declared.input_fault.InputFault.{InputFault}
 
 -- what is to be printed: formulas, or a cover
@@ -22,66 +26,117 @@ pub data Outcome : Type 0 where
   Formulas : FormulaQuery → Outcome
   Cover : CoverQuery → Outcome
 
--- the cover that a query asks for
-abbrev pub asked_cover : CoverQuery → CoverEntries
-asked_cover query = cover_of query.table query.formula query.coverage
-
--- the reports of what queries ask for
-abbrev pub formulas_report : FormulaQuery → List ℕ
-formulas_report query = decompose_report query.table query.mz (asked_formulas query)
-
-abbrev pub cover_report : CoverQuery → List ℕ
-cover_report query = envelope_text (pos 0) (asked_cover query)
-
 -- the bytes are the report of an outcome
 abbrev pub IsReport : Outcome → List ℕ → Type 0
 IsReport (Formulas query) bytes = bytes ≡ formulas_report query
 IsReport (Cover query) bytes = bytes ≡ cover_report query
 
--- `decompose` over its table: the alphabet may be refused, and then the number of formulas
-abbrev pub decompose_over : ℕ → Tolerance → List ℕ → TableEntries → Result FormulaQuery InputFault
-decompose_over mz tolerance text table =
-    alphabet_step table text
-    >>= λ alphabet. within_limit 1 (formulas_of_peak alphabet tolerance mz)
-    >>= λ few. Ok (record { table = table; alphabet = alphabet; tolerance = tolerance; mz = mz })
+-- the page that is asked for: the token may be refused, and then the number of formulas
+abbrev pub page_step : GroundValue → List ℕ → Option ℕ → Option (List ℕ) → Result FormulaQuery InputFault
+page_step premises mzs limit after =
+    token_step premises after
+    >>= λ token. within_limit (record { premises = premises; mzs = mzs; after = token; limit = limit })
 
--- `envelope` over its table: the formula may be refused, and then the number of its isotopologues
-abbrev pub envelope_over : List ℕ → ℕ → TableEntries → Result CoverQuery InputFault
-envelope_over text coverage table =
-    formula_step table text
-    >>= λ formula. or_fault_as (of_cover_fault formula) (cover_unless_wide table formula coverage)
-    >>= λ cover. Ok (record { table = table; formula = formula; coverage = coverage })
+-- what `decompose` asks over files
+abbrev pub decompose_query : DecomposeOptions → Files → Asked FormulaQuery
+decompose_query options files =
+    table_step options.table files and_then λ table.
+    peaks_step options.mass options.peaks files and_then λ mzs.
+    ground_step table options.tolerance options.alphabet options.adduct options.rules files and_then λ premises.
+    asks_none (page_step premises mzs options.limit options.after)
 
--- what `decompose` and `envelope` ask over files
-abbrev pub decompose_query : List ℕ → ℕ → Tolerance → List ℕ → Files → Asked FormulaQuery
-decompose_query table mz tolerance alphabet files =
-    table_step table files and_then λ entries. asks_none (decompose_over mz tolerance alphabet entries)
+-- the names of its files, in the order in which they are asked for
+abbrev pub decompose_names : DecomposeOptions → Names
+decompose_names options =
+    (options.table ∷ []) ++ (peaks_names options.mass options.peaks ++ rules_names options.rules)
 
-abbrev pub envelope_query : List ℕ → List ℕ → ℕ → Files → Asked CoverQuery
-envelope_query table formula coverage files =
-    table_step table files and_then λ entries. asks_none (envelope_over formula coverage entries)
+-- what is added to the mass of an ion's isotopologue: that of as many electrons as its charge says is taken off
+abbrev pub electron_shift : TableEntries → AdductValue → ℤ
+electron_shift table adduct = pos 0 -ℤ (adduct.charge *ℤ pos table.electron)
+
+-- the query for the cover of an ion, which a layer may refuse
+abbrev pub cover_query : TableEntries → List (Item × ℕ) → ℤ → ℕ → Result CoverQuery InputFault
+cover_query table ion shift coverage =
+    cover_step table ion coverage
+    >>= λ cover. Ok (record { table = table; ion = ion; shift = shift; coverage = coverage })
+
+-- `envelope` over its table: the adduct may be refused, the formula, the ion, and then a layer
+abbrev pub envelope_over : EnvelopeOptions → TableEntries → Result CoverQuery InputFault
+envelope_over options table =
+    adduct_step table options.adduct
+    >>= λ adduct. ion_step table adduct options.formula
+    >>= λ ion. cover_query table ion (electron_shift table adduct) options.coverage
+
+-- what `envelope` asks over files
+abbrev pub envelope_query : EnvelopeOptions → Files → Asked CoverQuery
+envelope_query options files =
+    table_step options.table files and_then λ table.
+    tracer_step table options.tracer files and_then λ traced.
+    asks_none (envelope_over options traced)
+
+-- the names of its files
+abbrev pub envelope_names : EnvelopeOptions → Names
+envelope_names options = (options.table ∷ []) ++ tracer_names options.tracer
 
 -- what comes of a request over files: the first step that refuses is the answer
 abbrev pub answer_of_request : Request → Files → Asked Outcome
-answer_of_request (Decompose table mz tolerance alphabet) files =
-    asked_as Formulas (decompose_query table mz tolerance alphabet files)
-answer_of_request (Envelope table formula coverage) files =
-    asked_as Cover (envelope_query table formula coverage files)
+answer_of_request (Decompose table mass peaks tolerance alphabet adduct rules limit after) files =
+    asked_as Formulas (decompose_query (record {
+      table = table;
+      mass = mass;
+      peaks = peaks;
+      tolerance = tolerance;
+      alphabet = alphabet;
+      adduct = adduct;
+      rules = rules;
+      limit = limit;
+      after = after;
+    }) files)
+answer_of_request (Envelope table tracer adduct formula coverage) files =
+    asked_as Cover (envelope_query (record {
+      table = table;
+      tracer = tracer;
+      adduct = adduct;
+      formula = formula;
+      coverage = coverage;
+    }) files)
+
+-- the same, where the words are a request
+abbrev pub answer_if : Result Request WordsFault → Files → Asked Outcome
+answer_if (Ok request) files = answer_of_request request files
+answer_if (Err fault) files = record { names = []; result = Err (of_words_fault fault) }
 
 -- what comes of the program's words over files
 unfoldable pub answer : List (List ℕ) → Files → Asked Outcome
-answer words files =
-    asks_none (or_fault_as of_words_fault (request_of words)) and_then λ request. answer_of_request request files
+answer words files = answer_if (request_of words) files
 
--- the names of the files that a request has, in the order in which they are asked for
-abbrev pub names_of_request : Request → List (List ℕ)
-names_of_request (Decompose table mz tolerance alphabet) = table ∷ []
-names_of_request (Envelope table formula coverage) = table ∷ []
+-- the names of the files of a request, in the order in which they are asked for
+abbrev pub names_of_request : Request → Names
+names_of_request (Decompose table mass peaks tolerance alphabet adduct rules limit after) =
+    decompose_names (record {
+      table = table;
+      mass = mass;
+      peaks = peaks;
+      tolerance = tolerance;
+      alphabet = alphabet;
+      adduct = adduct;
+      rules = rules;
+      limit = limit;
+      after = after;
+    })
+names_of_request (Envelope table tracer adduct formula coverage) =
+    envelope_names (record {
+      table = table;
+      tracer = tracer;
+      adduct = adduct;
+      formula = formula;
+      coverage = coverage;
+    })
 
 -- the same of words, which have none where they are no request
-abbrev pub names_if : {E : Type 0} → Result Request E → List (List ℕ)
+abbrev pub names_if : {E : Type 0} → Result Request E → Names
 names_if (Ok request) = names_of_request request
 names_if (Err fault) = []
 
-abbrev pub file_names : List (List ℕ) → List (List ℕ)
+abbrev pub file_names : List (List ℕ) → Names
 file_names words = names_if (request_of words)

@@ -1,33 +1,71 @@
--- What holds of what a run printed: of the formulas of a mass, and of an envelope in exact weights.
-use Rattle.std.specs.Prelude.{◌≡◌, ℕ, pos, List, Option, Some, All, AllPairs, Contains, map, is_some, IsTrue, ◌↔◌}
+-- What holds of what a run printed: of the formulas of peaks, and of an envelope in exact weights.
+use Rattle.std.specs.Prelude.{◌≡◌, ◌≢◌, ℕ, ◌≤◌, List, [], ◌∷◌, ◌++◌, length, Option, Some, MatchOption, All, AllPairs, Contains, map, IsTrue, ◌↔◌}
 use Rattle.mass_scaling.specs.Tolerances.{Within}
-use Rattle.mass_scaling.specs.declared.tolerances.Tolerance.{Tolerance}
 use Rattle.decompose.specs.CountLists.{IsInBox, comes_after}
+use Rattle.decompose.specs.Enumeration.{lists_after}
 use Rattle.element_table.specs.Elements.{TableEntries}
 use Rattle.written_items.specs.declared.item.Item.{Item}
-use Rattle.alphabet_text.specs.declared.entries.AlphabetEntry.{AlphabetEntry}
+use Rattle.formula_text.specs.Formulas.{formula_of}
+use Rattle.adducts.specs.Adducts.{divisor_of}
+use Rattle.adducts.specs.Ions.{ion_of, mass_of_ion}
+use Rattle.golden_rules.specs.MeetsRules.{MeetsAll}
+use Rattle.candidates.specs.Grounds.{GroundValue}
+use Rattle.candidates.specs.PeakFormulas.{counts_of, formulas_of_peak, limits_of}
 use Rattle.multinomial_bounds.specs.Bounds.{IsEnclosure}
 use Rattle.multinomial_bounds.specs.Isotopologue.{isotopologue_weight, all_weight}
 use Rattle.isotopologue_sets.specs.Covers.{IsCover}
 use Rattle.isotopologue_text.specs.Isotopologues.{formula_elements}
 use Rattle.cover_certificate.specs.FormulaCovers.{CoverEntries, member_numbers}
-use Rattle.isoform.specs.Answer.{Outcome, Formulas, Cover, asked_cover}
-use Rattle.isoform.specs.PeakFormulas.{asked_formulas, counts_mass, formula_of_counts}
+use Rattle.isoform.specs.Answer.{Outcome, Formulas, Cover}
+use Rattle.isoform.specs.PageFormulas.{asked_counts, token_counts}
+use Rattle.isoform.specs.Queries.{FormulaQuery}
+use Rattle.isoform.specs.Reports.{asked_cover}
 
--- a count list of an alphabet that is a formula within the limits, with a mass within tolerance of the m/z
-pub record IsOfPeak (alphabet : List AlphabetEntry) (tolerance : Tolerance) (mz : ℕ) (counts : List ℕ) : Type 0 where
-  pub in_box : IsInBox (map (λ e. e.limit) alphabet) counts
-  pub within : Within (pos (counts_mass alphabet counts)) mz tolerance 1
-  pub formula : IsTrue (is_some (formula_of_counts alphabet counts))
+-- A count list of the alphabet's box is of a peak: it is that of a formula within the limits, which has an ion within
+-- the limits, the ion's exact mass is within tolerance of the m/z, and the formula meets the rules.
+pub record IsOfPeak (premises : GroundValue) (mz : ℕ) (counts : List ℕ) : Type 0 where
+  pub in_box : IsInBox (limits_of premises.alphabet) counts
+  pub formula : List (Item × ℕ)
+  pub is_formula : formula_of (counts_of premises.alphabet counts) ≡ Some formula
+  pub ion : List (Item × ℕ)
+  pub is_ion : ion_of premises.adduct formula ≡ Some ion
+  pub within : Within (mass_of_ion premises.table premises.adduct ion) mz premises.tolerance (divisor_of premises.adduct)
+  pub meets : MeetsAll premises.table premises.rules formula
 
--- The formulas that are printed for a peak: each count list of the peak has one of them, no other list has one, none
--- stands twice, and they stand in lexicographic order of the counts.
-pub record AreOfPeak (alphabet : List AlphabetEntry) (tolerance : Tolerance) (mz : ℕ)
-    (formulas : List (List (Item × ℕ))) : Type 0 where
-  pub lists : List (List ℕ)
-  pub exactly : (counts : List ℕ) → Contains lists counts ↔ IsOfPeak alphabet tolerance mz counts
+-- count lists are all of a peak: each one that is of the peak stands there, and no other; they stand in lexicographic
+-- order, so that none stands twice
+pub record AreAllOfPeak (premises : GroundValue) (mz : ℕ) (lists : List (List ℕ)) : Type 0 where
+  pub exactly : (counts : List ℕ) → Contains lists counts ↔ IsOfPeak premises mz counts
   pub rising : AllPairs (λ a b. IsTrue (comes_after a b)) lists
-  pub one_each : map (formula_of_counts alphabet) lists ≡ map Some formulas
+
+-- with a token, the lists before the page don't come after its counts, and those from the page on do; without one the
+-- page is the first
+abbrev pub BeginsBehind : Option (List ℕ) → List (List ℕ) → List (List ℕ) → Type 0
+BeginsBehind token before from =
+    MatchOption token (before ≡ []) (λ counts. All (λ list. ¬ IsTrue (comes_after counts list)) before
+    × All (λ list. IsTrue (comes_after counts list)) from)
+
+-- with a limit, the page has at most so many lists, and just as many where some are behind it; without one it is the
+-- last
+abbrev pub EndsWithin : Option ℕ → List (List ℕ) → List (List ℕ) → Type 0
+EndsWithin limit page behind =
+    MatchOption limit (behind ≡ []) (λ most. (length page ≤ most) × (behind ≢ [] → length page ≡ most))
+
+-- A page of lists: what stands before it and behind it, and that the page behind the counts of its last list begins
+-- where it ends, so that pages joined are the whole.
+pub record IsPageOf (lists page : List (List ℕ)) (token : Option (List ℕ)) (limit : Option ℕ) : Type 0 where
+  pub before : List (List ℕ)
+  pub behind : List (List ℕ)
+  pub parts : lists ≡ before ++ page ++ behind
+  pub begins : BeginsBehind token before (page ++ behind)
+  pub ends : EndsWithin limit page behind
+  pub next : (first : List (List ℕ)) (last : List ℕ) → page ≡ first ++ last ∷ [] → lists_after lists last ≡ behind
+
+-- the formulas that are printed for a peak: the page asked for, of all formulas of the peak
+pub record PrintsPeak (query : FormulaQuery) (mz : ℕ) : Type 0 where
+  pub all : AreAllOfPeak query.premises mz (formulas_of_peak query.premises mz)
+  pub page : IsPageOf (formulas_of_peak query.premises mz) (asked_counts query mz)
+      (token_counts query.premises query.after) query.limit
 
 -- What a cover of a formula claims, by the exact weights of its isotopologues: its first `size` members, which are
 -- printed, reach the coverage; no set of distinct isotopologues with fewer members than its bound does; its first
@@ -40,7 +78,7 @@ pub record HoldsTrue (table : TableEntries) (cover : CoverEntries) : Type 0 wher
       (all_weight (formula_elements table cover.formula)))
       (map (member_numbers (formula_elements table cover.formula)) cover.layer)
 
--- what is claimed of an outcome: its formulas are exactly those of the peak, and what its cover claims is true
+-- what is claimed of an outcome: the formulas of each peak are exactly those, and what its cover claims is true
 abbrev pub Holds : Outcome → Type 0
-Holds (Formulas query) = AreOfPeak query.alphabet query.tolerance query.mz (asked_formulas query)
+Holds (Formulas query) = All (PrintsPeak query) query.mzs
 Holds (Cover query) = HoldsTrue query.table (asked_cover query)

@@ -2,8 +2,9 @@ pub mod Refusals
 pub mod Notes
 pub mod Asked
 pub mod Steps
+pub mod Inputs
 pub mod Queries
-pub mod PeakFormulas
+pub mod PageFormulas
 pub mod Reports
 pub mod Answer
 pub mod Claims

@@ -3,12 +3,15 @@ use Rattle.std.specs.Prelude.{◌≡◌, ℕ, ◌+◌, ◌<◌, ◌≤◌, ◌++
 use Rattle.std.specs.Io.KnownBytes.{append_known}
 use Rattle.outside_ports.specs.Faults.{Rose}
 use Rattle.outside_ports.specs.Files.{Files}
+use Rattle.command_words.specs.declared.fault.WordsFault.{WordsFault}
+use Rattle.command_words.specs.declared.request.Request.{Request}
 use Rattle.isoform.specs.Answer.{Outcome, IsReport}
 use Rattle.isoform.specs.Asked.{Asked, Names}
 use Rattle.isoform.specs.Claims.{Holds}
 use Rattle.isoform.specs.Notes.{status_of, note_of}
+use Rattle.isoform.specs.Refusals.{of_words_fault}
 use Rattle.isoform.specs.declared.refusal.Refusal.{Refusal}
-use Rattle.isoform.specs.declared.refusal.Refusal.TheVariants.{Input, ReadFault, WriteFault, Memory}
+use Rattle.isoform.specs.declared.refusal.Refusal.TheVariants.{Words, Input, ReadFault, WriteFault, Memory}
 
 -- The names asked are all of these where nothing is refused, and else some first ones of them; a file that couldn't be
 -- read is the last one asked for.
@@ -25,17 +28,23 @@ CountsReads before after (Err (ReadFault name)) = Rose before after × (before �
 CountsReads before after (Err Memory) = before ≤ after
 CountsReads before after answered = after ≡ before
 
--- it is no fault of the output
-abbrev pub NoWriteFault : {X : Type 0} → Result X Refusal → Type 0
-NoWriteFault (Err WriteFault) = ⊥
-NoWriteFault answered = ⊤
+-- it is no fault of the words
+abbrev pub NoWordsFault : {X : Type 0} → Result X Refusal → Type 0
+NoWordsFault (Err (Words fault)) = ⊥
+NoWordsFault answered = ⊤
+
+-- it is no fault of the words or of the output
+abbrev pub OnlyReads : {X : Type 0} → Result X Refusal → Type 0
+OnlyReads (Err (Words fault)) = ⊥
+OnlyReads (Err WriteFault) = ⊥
+OnlyReads answered = ⊤
 
 -- What a part of a run that may ask for files of these names shows of the shelf, whatever the files hold. No such part
 -- writes.
 pub record Reads {X : Type 0} (names before after : Names) (faults_before faults_after : ℕ) (answered : Result X Refusal) : Type 0 where
   pub asks : AsksNames names before after answered
   pub counts : CountsReads faults_before faults_after answered
-  pub writes_nothing : NoWriteFault answered
+  pub only_reads : OnlyReads answered
 
 -- What a part of a run answers and asks for, where this is expected of it: the value, seen through `view`, or the
 -- refusal, and the names up to it. Only a device that failed, or want of memory, can end it earlier.
@@ -44,6 +53,23 @@ AnswersAs view expected before after (Ok x) = (expected.result ≡ Ok (view x)) 
 AnswersAs view expected before after (Err (Input fault)) =
     (expected.result ≡ Err (Input fault)) × (after ≡ before ++ expected.names)
 AnswersAs view expected before after (Err refusal) = (asked : ℕ) × (after ≡ before ++ take asked expected.names)
+
+-- what a shelf shows at one moment: what it holds, where it tells that, the names asked, and its count of faults
+pub record Shelved : Type 0 where
+  pub held : Option Files
+  pub asked : Names
+  pub faults : ℕ
+
+abbrev pub shelved : Option Files → Names → ℕ → Shelved
+shelved held asked faults = record { held = held; asked = asked; faults = faults }
+
+-- A part of a run that may ask for files of these names, and of which this is expected over files: what it shows of
+-- the shelf, which holds what it held, and what it answers.
+pub record IsPart {X A : Type 0} (view : X → A) (names : Names) (expected : Files → Asked A)
+    (before after : Shelved) (answered : Result X Refusal) : Type 0 where
+  pub held : after.held ≡ before.held
+  pub reads : Reads names before.asked after.asked before.faults after.faults answered
+  pub answers : IfSome before.held (λ files. AnswersAs view (expected files) before.asked after.asked answered)
 
 -- how a run ends: its report is written, or there is a refusal
 abbrev pub Ending : Type 0
@@ -80,6 +106,7 @@ CountsWrites before after ending = after ≡ before
 
 -- the output received nothing where what was given is refused, or a file couldn't be read
 abbrev pub ReceivesNothing : Option (List ℕ) → Option (List ℕ) → Ending → Type 0
+ReceivesNothing before after (Err (Words fault)) = after ≡ before
 ReceivesNothing before after (Err (Input fault)) = after ≡ before
 ReceivesNothing before after (Err (ReadFault name)) = after ≡ before
 ReceivesNothing before after ending = ⊤
@@ -90,6 +117,11 @@ pub record Shows (names : Names) (before after : Outside) (ending : Ending) : Ty
   pub reads : CountsReads before.shelf_faults after.shelf_faults ending
   pub writes : CountsWrites before.out_faults after.out_faults ending
   pub receives : ReceivesNothing before.received after.received ending
+
+-- words that are no request are refused with their fault, or memory ran out; and no other words are
+abbrev pub RefusesWords : Result Request WordsFault → Ending → Type 0
+RefusesWords (Ok request) ending = NoWordsFault ending
+RefusesWords (Err fault) ending = (ending ≡ Err (of_words_fault fault)) ⊎ (ending ≡ Err Memory)
 
 -- some first bytes of a report of the outcome were received
 pub record ReceivesSome (outcome : Outcome) (before after : Option (List ℕ)) : Type 0 where
@@ -109,8 +141,8 @@ pub record ReceivesAll (outcome : Outcome) (before after : Option (List ℕ)) : 
   pub is_report : IsReport outcome report
   pub received : after ≡ append_known before report
 
--- How a run ends that has this answer: its report is written, and what it claims holds, or what was given is refused, as the answer says; or a
--- file couldn't be read, the report couldn't be written whole, or memory ran out before that.
+-- How a run ends that has this answer: its report is written, and what it claims holds, or what was given is refused,
+-- as the answer says; or a file couldn't be read, the report couldn't be written whole, or memory ran out before that.
 abbrev pub EndsAs : Asked Outcome → Outside → Outside → Ending → Type 0
 EndsAs answer before after (Ok done) =
     IsOkAnd answer.result (λ outcome. ReceivesAll outcome before.received after.received × Holds outcome)
@@ -123,8 +155,8 @@ EndsAs answer before after (Err Memory) =
     × ((asked : ℕ) × (after.asked ≡ before.asked ++ take asked answer.names))
 EndsAs answer before after (Err (ReadFault name)) =
     (asked : ℕ) × (after.asked ≡ before.asked ++ take asked answer.names)
-EndsAs answer before after (Err (Input fault)) =
-    (answer.result ≡ Err (Input fault)) × (after.asked ≡ before.asked ++ answer.names)
+EndsAs answer before after (Err refusal) =
+    (answer.result ≡ Err refusal) × (after.asked ≡ before.asked ++ answer.names)
 
 -- the refusal that is told is the one that came, or want of memory for its note; a write fault takes none
 abbrev pub IsTold : Refusal → Refusal → Type 0
@@ -139,31 +171,36 @@ IsPut note before faults_before after faults_after =
 
 -- the notes received nothing where the report is written, and else the note, or some first bytes of it where their
 -- count of faults rose
-abbrev pub TellsNote : Option (List ℕ) → ℕ → Option (List ℕ) → ℕ → Ending → Type 0
+abbrev pub TellsNote : {X : Type 0} → Option (List ℕ) → ℕ → Option (List ℕ) → ℕ → Result X Refusal → Type 0
 TellsNote before faults_before after faults_after (Ok done) = (after ≡ before) × (faults_after ≡ faults_before)
 TellsNote before faults_before after faults_after (Err refusal) =
     IsPut (note_of refusal) before faults_before after faults_after
 
--- the status of an ending
-abbrev pub status_of_ending : Ending → ℕ
-status_of_ending (Ok done) = 0
-status_of_ending (Err refusal) = status_of refusal
+-- the note of a file that couldn't be read has the last name asked
+pub record TellsLastName (asked : Names) (before : Option (List ℕ)) (faults_before : ℕ) (after : Option (List ℕ))
+    (faults_after : ℕ) : Type 0 where
+  pub others : Names
+  pub name : List ℕ
+  pub last : asked ≡ others ++ name ∷ []
+  pub told : IsPut (note_of (ReadFault name)) before faults_before after faults_after
 
-abbrev pub status_of_result : Result Outcome Refusal → ℕ
-status_of_result (Ok outcome) = 0
+-- the status of an ending, and of an answer that no device and no want of memory hinders
+abbrev pub status_of_result : {X : Type 0} → Result X Refusal → ℕ
+status_of_result (Ok x) = 0
 status_of_result (Err refusal) = status_of refusal
 
--- the status of an answer that no device and no want of memory hinders
 abbrev pub status_of_answer : Asked Outcome → ℕ
 status_of_answer answer = status_of_result answer.result
 
 -- a run on words, which have files of these names, and whose answer over files is this: how it ends, with which status,
 -- and what the shelf, `out` and the notes show of that
-pub record Runs (names : Names) (held : Option Files) (answer : Files → Asked Outcome) (before after : Outside)
+pub record Runs (names : Names) (request : Result Request WordsFault) (held : Option Files)
+    (answer : Files → Asked Outcome) (before after : Outside)
     (notes_before : Option (List ℕ)) (note_faults_before : ℕ)
     (notes_after : Option (List ℕ)) (note_faults_after : ℕ) (status : ℕ) : Type 0 where
   pub ending : Ending
-  pub status_is : status ≡ status_of_ending ending
+  pub status_is : status ≡ status_of_result ending
+  pub words : RefusesWords request ending
   pub shows : Shows names before after ending
   pub answers : IfSome held (λ files. EndsAs (answer files) before after ending)
   pub tells : TellsNote notes_before note_faults_before notes_after note_faults_after ending

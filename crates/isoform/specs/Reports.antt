@@ -1,19 +1,27 @@
 -- The reports: the lines of each command, in their order.
-use Rattle.std.specs.Prelude.{ℕ, pos, List, ◌++◌}
+use Rattle.std.specs.Prelude.{ℕ, List, length, ◌++◌}
 use Rattle.std.specs.List.{flat_map}
-use Rattle.element_table.specs.Elements.{TableEntries}
-use Rattle.written_items.specs.declared.item.Item.{Item}
-use Rattle.formula_text.specs.Masses.{mass_of}
-use Rattle.report_text.specs.ReportLines.{decompose_head, formula_line, peak_line}
+use Rattle.candidates.specs.Lines.{line_at}
+use Rattle.cover_certificate.specs.FormulaCovers.{CoverEntries, cover_of}
+use Rattle.report_text.specs.ReportLines.{decompose_head, envelope_text, peak_line}
+use Rattle.isoform.specs.PageFormulas.{asked_counts, numbered}
+use Rattle.isoform.specs.Queries.{CoverQuery, FormulaQuery}
 
--- the line of a formula to which nothing is added: its ion has its own mass
-abbrev pub neutral_line : TableEntries → ℕ → List (Item × ℕ) → List ℕ
-neutral_line table mz formula = formula_line formula (mass_of table formula) (pos (mass_of table formula)) mz 1
+-- the lines of a peak's page
+abbrev pub formula_lines : FormulaQuery → ℕ → List ℕ
+formula_lines query mz = flat_map (line_at query.premises mz) (asked_counts query mz)
 
--- the lines above the formulas of one mass
-abbrev pub peak_head : ℕ → List ℕ
-peak_head mz = decompose_head 1 ++ peak_line 1 mz
+-- the lines of a peak: its number and its m/z, and its formulas
+abbrev pub peak_lines : FormulaQuery → ℕ × ℕ → List ℕ
+peak_lines query peak = peak_line peak.0 peak.1 ++ formula_lines query peak.1
 
--- the report of one mass and its formulas
-unfoldable pub decompose_report : TableEntries → ℕ → List (List (Item × ℕ)) → List ℕ
-decompose_report table mz formulas = peak_head mz ++ flat_map (neutral_line table mz) formulas
+-- the report of the formulas of peaks
+unfoldable pub formulas_report : FormulaQuery → List ℕ
+formulas_report query = decompose_head (length query.mzs) ++ flat_map (peak_lines query) (numbered query.mzs)
+
+-- the cover that a query asks for, and its report
+abbrev pub asked_cover : CoverQuery → CoverEntries
+asked_cover query = cover_of query.table query.ion query.coverage
+
+abbrev pub cover_report : CoverQuery → List ℕ
+cover_report query = envelope_text query.shift (asked_cover query)

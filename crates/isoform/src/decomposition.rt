@@ -1,30 +1,32 @@
-//! `decompose`: the formulas of a measured mass.
-ghost use Rattle.std.specs.Prelude.{◌≡◌, ◌∷◌, [], ◌<◌, All, ◌++◌, IfOk, IfSome, OnOk, IsTrue, is_some, length, map};
-ghost use Rattle.std.specs.List.{filter_map, flat_map};
-ghost use Rattle.reader_answers.specs.Answers.{Gives};
-ghost use Rattle.mass_scaling.specs.Limits.{AreMeasured};
-ghost use Rattle.decompose.specs.Enumeration.{left};
-ghost use Rattle.element_table.specs.Elements.{TableEntries};
-ghost use Rattle.formula_text.specs.Masses.{HasItems, item_isotope};
-ghost use Rattle.alphabet_text.specs.Alphabets.{IsEntryOf};
-ghost use Rattle.isoform.specs.Answer.{decompose_over, decompose_query, formulas_report};
-ghost use Rattle.isoform.specs.Outside.{AnswersAs, Puts, Reads};
-ghost use Rattle.isoform.specs.PeakFormulas.{formula_of_items, formula_of_counts, asked_formulas, lists_left, within_limit};
-ghost use Rattle.isoform.specs.Refusals.{is_memory};
-ghost use Rattle.isoform.specs.Reports.{neutral_line, peak_head};
+//! `decompose`: the formulas of peaks.
+ghost use Rattle.std.specs.Prelude.{◌≡◌, ◌≢◌, ◌↔◌, ◌<◌, ◌++◌, All, IfOk, IfSome, IsTrue, Some, length, nat_lt};
+ghost use Rattle.std.specs.List.{flat_map};
+ghost use Rattle.mass_scaling.specs.Limits.{IsTolerance};
+ghost use Rattle.mass_scaling.specs.declared.limits.TheConstants.{MAX_MZ};
+ghost use Rattle.command_words.specs.Requests.{IsWithin};
+ghost use Rattle.command_words.specs.declared.options.TheConstants.{MIN_MZ};
+ghost use Rattle.candidates.specs.Enumeration.{counts_left};
+ghost use Rattle.candidates.specs.Lines.{line_at};
+ghost use Rattle.candidates.specs.Tokens.{IsInAlphabetBox};
+ghost use Rattle.isoform.specs.Answer.{decompose_names, decompose_query, page_step};
+ghost use Rattle.isoform.specs.Claims.{PrintsPeak};
+ghost use Rattle.isoform.specs.Inputs.{IsMz};
+ghost use Rattle.isoform.specs.Outside.{IsPart, Puts, shelved};
+ghost use Rattle.isoform.specs.PageFormulas.{counts_after, first_of, numbered, one_less, within_limit};
+ghost use Rattle.isoform.specs.Refusals.{GivesInput};
+ghost use Rattle.isoform.specs.Reports.{formulas_report, peak_lines};
+ghost use Rattle.isoform.specs.Steps.{after_step, in_box, token_step};
 
 use crate::input_fault::InputFault;
-use crate::inputs::table_of;
+use crate::inputs::{ground_of, peaks_of, table_of};
 use crate::output::put_text;
 use crate::refusal::Refusal;
-use alphabet_text::{Alphabet, read_alphabet};
+use candidates::{Candidates, Ground, ResumeFault};
 use command_words::Word;
-use decompose::{Counts, Decomps, ScaleFault, Tables};
-use element_table::Table;
-use formula_text::{Formula, Item};
-use mass_scaling::{Charged, Tolerance, window_of};
+use formula_text::{Formula, read_formula};
+use mass_scaling::Tolerance;
 use outside_ports::{Shelf, Sink, Steps};
-use report_text::{push_decompose_head, push_formula_line, push_peak_line};
+use report_text::{push_decompose_head, push_peak_line};
 use std::alloc::{AllocError, Global};
 use std::marker::{Brand, Model};
 use std::sync::ledger::{Blank, Ledger};
@@ -32,254 +34,283 @@ use std::sync::ledger::{Blank, Ledger};
 /// The most candidates of a peak.
 pub const MAX_CANDIDATES: u64 = 1_048_576;
 
-/// A measured mass with the table and the alphabet whose formulas are asked. It is seen as that query.
+/// An m/z with which a token is tried: whether it is in the box rests on the alphabet alone.
+const ANY_MZ: u64 = 1;
+
+/// The options of `decompose`, as its request has them.
+#[derive(Drop)]
+pub struct DecomposeOptions {
+    pub table: Word,
+    pub mass: Option<u64>,
+    pub peaks: Option<Word>,
+    pub tolerance: Tolerance,
+    pub alphabet: Word,
+    pub adduct: Word,
+    pub rules: Word,
+    pub limit: Option<u64>,
+    pub after: Option<Word>,
+}
+
+/// Peaks with the premises on which their formulas are asked, and the page of them that is. It is seen as that query.
 #[derive(Drop)]
 pub struct Decomposition {
-    table: Table,
-    alphabet: Alphabet,
-    tables: Tables,
-    mz: u64,
-    tolerance: Tolerance,
+    premises: Ground,
+    mzs: Vec<u64>,
+    after: Option<Formula>,
+    limit: Option<u64>,
 }
 
 impl Model for Decomposition {
-    ghost use Rattle.std.specs.Prelude.{◌≡◌, All, map};
-    ghost use Rattle.mass_scaling.specs.Limits.{AreMeasured};
-    ghost use Rattle.alphabet_text.specs.Alphabets.{IsEntryOf};
+    ghost use Rattle.std.specs.Prelude.{All, IfSome};
+    ghost use Rattle.candidates.specs.Tokens.{IsInAlphabetBox};
+    ghost use Rattle.isoform.specs.Inputs.{IsMz};
     ghost use Rattle.isoform.specs.Queries.{FormulaQuery};
 
     ghost Value = { FormulaQuery };
 
-    ghost view = { λ d. record { table = d.table; alphabet = d.alphabet; tolerance = d.tolerance; mz = d.mz } };
+    ghost view = { λ d. record { premises = d.premises; mzs = d.mzs.items; after = d.after; limit = d.limit } };
 
-    ghost invariant = { λ d. All (IsEntryOf d.table) d.alphabet
-        × AreMeasured d.mz d.tolerance 1
-        × (d.tables ≡ map (λ e. e.mass) d.alphabet) };
+    ghost invariant = { λ d. All IsMz d.mzs.items × IfSome d.after (IsInAlphabetBox d.premises.alphabet) };
 }
 
 impl Decomposition {
-    /// Reads what a decomposition is over. More than 1,048,576 formulas are refused.
+    /// Reads what a decomposition is over. Where no number of formulas is asked for, more than 1,048,576 of a peak are
+    /// refused.
     pub fn read<H: Shelf>(
         alloc: Global,
-        table: &Word,
-        mz: u64,
-        tolerance: Tolerance,
-        alphabet: &Word,
+        options: &DecomposeOptions,
         shelf: &mut H,
     ) -> Result<Decomposition, Refusal>
-        requires { AreMeasured mz tolerance 1 }
-        ensures held { H.held shelf.new ≡ H.held shelf.old }
-        ensures reads { Reads (table.now ∷ [])
-            (H.asked shelf.old) (H.asked shelf.new) (H.faults shelf.old) (H.faults shelf.new) result }
-        ensures answers { IfSome (H.held shelf.old) (λ files. AnswersAs (λ d. d)
-            (decompose_query table.now mz tolerance alphabet.now files)
-            (H.asked shelf.old) (H.asked shelf.new) result) }
+        requires mass { IsWithin MIN_MZ MAX_MZ options.now.mass }
+        requires tolerance { IsTolerance options.now.tolerance }
+        ensures { IsPart (λ d. d) (decompose_names options.now) (decompose_query options.now)
+            (shelved (H.held shelf.old) (H.asked shelf.old) (H.faults shelf.old))
+            (shelved (H.held shelf.new) (H.asked shelf.new) (H.faults shelf.new)) result }
     {
-        let table = table_of(alloc, table, shelf)?;
-        Ok(Decomposition::over(alloc, table, mz, tolerance, alphabet)?)
+        let table = table_of(alloc, &options.table, shelf)?;
+        let mzs = peaks_of(alloc, options.mass, &options.peaks, shelf)?;
+        let premises = ground_of(
+            alloc,
+            table,
+            options.tolerance,
+            &options.alphabet,
+            &options.adduct,
+            &options.rules,
+            shelf,
+        )?;
+        Decomposition::of_page(alloc, premises, mzs, options.limit, &options.after)
     }
 
-    /// The decomposition over a table.
-    fn over(
+    /// The decomposition of peaks on premises.
+    fn of_page(
         alloc: Global,
-        table: Table,
-        mz: u64,
-        tolerance: Tolerance,
-        alphabet: &Word,
-    ) -> Result<Decomposition, InputFault>
-        requires { AreMeasured mz tolerance 1 }
-        ensures { Gives is_memory result (decompose_over mz tolerance alphabet.now table) }
+        premises: Ground,
+        mzs: Vec<u64>,
+        limit: Option<u64>,
+        after: &Option<Word>,
+    ) -> Result<Decomposition, Refusal>
+        requires { All IsMz mzs.items }
+        ensures { GivesInput (λ d. d) (page_step premises mzs.items limit after.now) result }
     {
-        let alphabet = read_alphabet(alloc, &table, alphabet.text().as_bytes())?;
-        let tables = match Tables::of(alloc, alphabet.masses()) {
-            Ok(tables) => tables,
-            Err(ScaleFault::Memory) => return Err(InputFault::Memory),
-            Err(ScaleFault::BaseTooHeavy) => unreachable!(),
-        };
+        let after = token_of(alloc, &premises, after)?;
         let decomposition = Decomposition {
-            table,
-            alphabet,
-            tables,
-            mz,
-            tolerance,
+            premises,
+            mzs,
+            after,
+            limit,
         };
         decomposition.check_limit(alloc)?;
         Ok(decomposition)
     }
 
-    /// The enumeration of the count lists with a mass within tolerance; none where no mass is.
-    fn count_lists(&self, alloc: Global) -> Result<Option<Decomps<'_>>, AllocError>
-        ensures formulas { IfOk result (λ found. filter_map (formula_of_counts self.now.alphabet) (lists_left found)
-            ≡ asked_formulas self.now) }
-        ensures masses { IfOk result (λ found. IfSome found (λ d. d.masses ≡ map (λ e. e.mass) self.now.alphabet)) }
+    /// Refuses the first peak that has more than 1,048,576 formulas behind the token, unless so many are asked for.
+    fn check_limit(&self, alloc: Global) -> Result<(), Refusal>
+        ensures { GivesInput (λ done. self.now) (within_limit self.now) result }
     {
-        let neutral = Charged {
-            copies: 1,
-            divisor: 1,
-            shift: 0,
-        };
-        let limits = self.alphabet.limits();
-        match window_of(self.mz, self.tolerance, neutral) {
-            Some(window) => {
-                let decomps = Decomps::start(alloc, &self.tables, limits, window)?;
-                Ok(Some(decomps))
-            }
-            None => Ok(None),
+        if self.limit.is_some() {
+            return Ok(());
         }
+        for (i, mz) in self.mzs.iter().enumerate() {
+            if self.is_crowded(alloc, *mz)? {
+                let peak = i as u64 + 1;
+                return Err(Refusal::Input(InputFault::CandidateLimit { peak }));
+            }
+        }
+        Ok(())
     }
 
-    /// Refuses more than 1,048,576 formulas.
-    fn check_limit(&self, alloc: Global) -> Result<(), InputFault>
-        ensures { Gives is_memory result
-            (within_limit 1 (asked_formulas self.now)) }
+    /// Whether a peak has more than 1,048,576 formulas behind the token.
+    fn is_crowded(&self, alloc: Global, mz: u64) -> Result<bool, AllocError>
+        requires { IsMz mz }
+        ensures { IfOk result (λ crowded.
+            crowded ≡ nat_lt MAX_CANDIDATES (length (counts_after self.now.premises self.now.after mz))) }
     {
-        match self.count_lists(alloc)? {
-            Some(mut decomps) => {
-                let blank = Blank::new(1);
-                count_formulas::<Brand>(alloc, self.alphabet.items(), &mut decomps, blank)
-            }
-            None => Ok(()),
+        let mut candidates = self.candidates(alloc, mz)?;
+        has_many::<Brand>(&mut candidates, Blank::new(1))
+    }
+
+    /// The formulas of a peak behind the token.
+    fn candidates(&self, alloc: Global, mz: u64) -> Result<Candidates<'_>, AllocError>
+        requires { IsMz mz }
+        ensures left { IfOk result (λ c. counts_left c ≡ counts_after self.now.premises self.now.after mz) }
+        ensures premises { IfOk result (λ c. c.premises ≡ self.now.premises) }
+        ensures peak { IfOk result (λ c. c.mz ≡ mz) }
+    {
+        match &self.after {
+            None => Candidates::start(alloc, &self.premises, mz),
+            Some(after) => match Candidates::resume(alloc, &self.premises, mz, after) {
+                Ok(candidates) => Ok(candidates),
+                Err(ResumeFault::Memory) => Err(AllocError),
+                Err(ResumeFault::NotInBox) => unreachable!(),
+            },
         }
     }
 
     /// Puts the report, line by line.
     pub fn write<O: Sink>(&self, alloc: Global, out: &mut O) -> Result<(), Refusal>
-        ensures { Puts (formulas_report self.now)
+        ensures puts { Puts (formulas_report self.now)
             (O.written out.old) (O.written out.new) (O.faults out.old) (O.faults out.new) result }
+        ensures holds { All (PrintsPeak self.now) self.now.mzs }
     {
-        put_text(&peak_head(alloc, self.mz)?, out)?;
-        self.write_formulas(alloc, out)
+        let mut line = Vec::new(alloc);
+        let mzs = self.mzs.as_slice();
+        push_decompose_head(&mut line, mzs.len() as u64)?;
+        put_text(&line, out)?;
+        self.write_peaks(alloc, &mut line, out)
     }
 
-    /// Puts the lines of the formulas.
-    fn write_formulas<O: Sink>(&self, alloc: Global, out: &mut O) -> Result<(), Refusal>
-        ensures { Puts
-            (flat_map (neutral_line self.now.table self.now.mz)
-            (asked_formulas self.now))
+    /// Puts the lines of the peaks. `line` is room that is used again.
+    fn write_peaks<O: Sink>(
+        &self,
+        alloc: Global,
+        line: &mut Vec<u8>,
+        out: &mut O,
+    ) -> Result<(), Refusal>
+        ensures { Puts (flat_map (peak_lines self.now) (numbered self.now.mzs))
             (O.written out.old) (O.written out.new) (O.faults out.old) (O.faults out.new) result }
     {
-        match self.count_lists(alloc)? {
-            Some(mut decomps) => {
-                let blank = Blank::new(1);
-                let items = self.alphabet.items();
-                put_formulas::<Brand, O>(
-                    alloc,
-                    &self.table,
-                    items,
-                    self.mz,
-                    &mut decomps,
-                    out,
-                    blank,
-                )
-            }
-            None => Ok(()),
+        for (i, mz) in self.mzs.iter().enumerate() {
+            self.write_peak(alloc, i as u64 + 1, *mz, line, out)?;
+        }
+        Ok(())
+    }
+
+    /// Puts the lines of a peak of this number. `line` is room that is used again.
+    fn write_peak<O: Sink>(
+        &self,
+        alloc: Global,
+        number: u64,
+        mz: u64,
+        line: &mut Vec<u8>,
+        out: &mut O,
+    ) -> Result<(), Refusal>
+        requires { IsMz mz }
+        ensures { Puts (peak_lines self.now (number, mz))
+            (O.written out.old) (O.written out.new) (O.faults out.old) (O.faults out.new) result }
+    {
+        line.clear();
+        push_peak_line(line, number, mz)?;
+        put_text(line, out)?;
+        let mut candidates = self.candidates(alloc, mz)?;
+        put_formulas::<Brand, O>(&mut candidates, self.limit, line, out, Blank::new(1))
+    }
+}
+
+/// The token of a text, where there is one.
+fn token_of(
+    alloc: Global,
+    premises: &Ground,
+    after: &Option<Word>,
+) -> Result<Option<Formula>, Refusal>
+    ensures token { GivesInput (λ token. token) (token_step premises.now after.now) result }
+    ensures in_box { IfOk result (λ token. IfSome token (IsInAlphabetBox premises.now.alphabet)) }
+{
+    match after {
+        None => Ok(None),
+        Some(text) => {
+            let formula = after_formula(alloc, premises, text)?;
+            Ok(Some(in_box(alloc, premises, formula)?))
         }
     }
 }
 
-/// The lines above the formulas of a mass.
-fn peak_head(alloc: Global, mz: u64) -> Result<Vec<u8>, AllocError>
-    ensures { IfOk result (λ head. head.items ≡ peak_head mz) }
+/// The formula of a text after which a list is to begin.
+fn after_formula(alloc: Global, premises: &Ground, text: &Word) -> Result<Formula, Refusal>
+    ensures { GivesInput (λ formula. formula) (after_step premises.now text.now) result }
 {
-    let mut head = Vec::new(alloc);
-    push_decompose_head(&mut head, 1)?;
-    push_peak_line(&mut head, 1, mz)?;
-    Ok(head)
-}
-
-/// Appends the line of a formula to which nothing is added.
-fn push_neutral_line(
-    report: &mut Vec<u8>,
-    table: &Table,
-    mz: u64,
-    formula: &Formula,
-) -> Result<(), AllocError>
-    requires { HasItems table.now formula.now }
-    ensures { OnOk result (report.new.items ≡ report.old.items ++ neutral_line table.now mz formula.now) }
-{
-    let mass = formula.mass(table);
-    push_formula_line(report, formula, mass, i128::from(mass), mz, 1)
-}
-
-/// The formula with these counts of an alphabet's items, where they are one within the limits.
-/// `parts` is room that is used again.
-fn formula_of(
-    alloc: Global,
-    items: &[Item],
-    counts: &[u32],
-    parts: &mut Vec<(Item, u32)>,
-) -> Result<Option<Formula>, AllocError>
-    requires { length counts.now ≡ length items.now }
-    ensures formula { IfOk result (λ formula. formula ≡ formula_of_items items.now counts.now) }
-    ensures items { (table : TableEntries) → All (λ item. IsTrue (is_some (item_isotope table item))) items.now →
-        IfOk result (λ o. IfSome o (HasItems table)) }
-{
-    parts.clear();
-    for (i, item) in items.iter().enumerate() {
-        parts.push((*item, counts[i]))?;
+    match read_formula(alloc, premises.table(), text.text().as_bytes()) {
+        Ok(formula) => Ok(formula),
+        Err(fault) => Err(Refusal::of_after(fault)),
     }
-    Formula::of(alloc, parts)
 }
 
-/// Refuses more than 1,048,576 formulas among the count lists that an enumeration has left. The steps of the search
-/// are counted in the ledger that `blank` opens.
-fn count_formulas<L: Ledger>(
-    alloc: Global,
-    items: &[Item],
-    decomps: &mut Decomps<'_>,
-    blank: Blank,
-) -> Result<(), InputFault>
-    requires one_mass_each { length decomps.old.masses ≡ length items.now }
+/// A formula whose counts are in the box of the alphabet.
+fn in_box(alloc: Global, premises: &Ground, formula: Formula) -> Result<Formula, Refusal>
+    ensures formula { GivesInput (λ formula. formula) (in_box premises.now.alphabet formula) result }
+    ensures in_box { IfOk result (IsInAlphabetBox premises.now.alphabet) }
+{
+    match Candidates::resume(alloc, premises, ANY_MZ, &formula) {
+        Ok(_) => Ok(formula),
+        Err(ResumeFault::NotInBox) => Err(Refusal::Input(InputFault::NotInBox)),
+        Err(ResumeFault::Memory) => Err(Refusal::Memory),
+    }
+}
+
+/// Whether more than 1,048,576 formulas are left. The steps of the search are counted in the ledger that `blank` opens.
+fn has_many<L: Ledger>(candidates: &mut Candidates<'_>, blank: Blank) -> Result<bool, AllocError>
     requires name { blank.name ≡ L.name }
     requires parts { blank.parts ≡ L.parts }
     requires some { 0 < blank.parts }
-    ensures { Gives is_memory result (within_limit 1 (filter_map (formula_of_items items.now) (left decomps.old))) }
+    ensures { IfOk result (λ many. many ≡ nat_lt MAX_CANDIDATES (length (counts_left candidates.old))) }
 {
     let mut steps = Steps::<L>::new(blank);
-    let mut counts = Counts::zero(alloc, items.len())?;
-    let mut parts = Vec::new(alloc);
-    let mut found = 0;
-    'lists: while decomps.next_into(&mut counts, &mut steps) {
-        if formula_of(alloc, items, counts.counts(), &mut parts)?.is_some() {
-            if found == MAX_CANDIDATES {
-                return Err(InputFault::CandidateLimit { peak: 1 });
-            }
-            found += 1;
-        }
-    }
-    Ok(())
+    candidates.has_more_than(MAX_CANDIDATES, &mut steps)
 }
 
-/// Puts the lines of the formulas of the count lists that an enumeration has left, each when it is found. The steps
-/// of the search are counted in the ledger that `blank` opens.
+/// Puts the lines of the formulas that are left, or of the first so many, each when it is found. `line` is room that is
+/// used again. The steps of the search are counted in the ledger that `blank` opens.
 fn put_formulas<L: Ledger, O: Sink>(
-    alloc: Global,
-    table: &Table,
-    items: &[Item],
-    mz: u64,
-    decomps: &mut Decomps<'_>,
+    candidates: &mut Candidates<'_>,
+    limit: Option<u64>,
+    line: &mut Vec<u8>,
     out: &mut O,
     blank: Blank,
 ) -> Result<(), Refusal>
-    requires known { All (λ item. IsTrue (is_some (item_isotope table.now item))) items.now }
-    requires one_mass_each { length decomps.old.masses ≡ length items.now }
     requires name { blank.name ≡ L.name }
     requires parts { blank.parts ≡ L.parts }
     requires some { 0 < blank.parts }
     ensures { Puts
-        (flat_map (neutral_line table.now mz) (filter_map (formula_of_items items.now) (left decomps.old)))
+        (flat_map (line_at candidates.old.premises candidates.old.mz) (first_of limit (counts_left candidates.old)))
         (O.written out.old) (O.written out.new) (O.faults out.old) (O.faults out.new) result }
 {
     let mut steps = Steps::<L>::new(blank);
-    let mut counts = Counts::zero(alloc, items.len())?;
-    let mut parts = Vec::new(alloc);
-    let mut line = Vec::new(alloc);
-    'lists: while decomps.next_into(&mut counts, &mut steps) {
-        if let Some(formula) = formula_of(alloc, items, counts.counts(), &mut parts)? {
-            line.clear();
-            push_neutral_line(&mut line, table, mz, &formula)?;
-            put_text(&line, out)?;
-        }
+    let mut most = limit;
+    'formulas: while allows_one(most) && candidates.advance(&mut steps) {
+        line.clear();
+        candidates.push_line(line)?;
+        put_text(line, out)?;
+        most = one_less(most);
     }
     Ok(())
+}
+
+/// Whether so many, or all, are at least one.
+fn allows_one(most: Option<u64>) -> bool
+    ensures { IsTrue result ↔ (most ≢ Some 0) }
+{
+    match most {
+        Some(0) => false,
+        _ => true,
+    }
+}
+
+/// One less than so many, and all but one of all.
+fn one_less(most: Option<u64>) -> Option<u64>
+    requires { most ≢ Some 0 }
+    ensures { result ≡ one_less most }
+{
+    match most {
+        Some(most) => Some(most - 1),
+        None => None,
+    }
 }

@@ -1,85 +1,128 @@
-//! `envelope`: the cover of a formula.
-ghost use Rattle.std.specs.Prelude.{◌≡◌, ◌≤◌, ◌∷◌, [], pos, IfSome};
+//! `envelope`: the cover of an ion.
+ghost use Rattle.std.specs.Prelude.{◌≡◌, ◌≤◌, ℤ, All, IfOk};
 ghost use Rattle.std.specs.List.{flat_map};
 ghost use Rattle.command_words.specs.declared.options.TheConstants.{MIN_COVERAGE, MAX_COVERAGE};
-ghost use Rattle.reader_answers.specs.Answers.{Gives};
-ghost use Rattle.isoform.specs.Answer.{asked_cover, cover_report, envelope_over, envelope_query};
+ghost use Rattle.element_table.specs.Elements.{IsTable};
+ghost use Rattle.formula_text.specs.Formulas.{IsFormula};
+ghost use Rattle.formula_text.specs.Masses.{HasItems};
+ghost use Rattle.isoform.specs.Answer.{cover_query, electron_shift, envelope_names, envelope_over, envelope_query};
 ghost use Rattle.isoform.specs.Claims.{HoldsTrue};
-ghost use Rattle.isoform.specs.Outside.{AnswersAs, Puts, Reads};
-ghost use Rattle.isoform.specs.Refusals.{is_memory};
-ghost use Rattle.report_text.specs.ReportLines.{isotopologue_line};
+ghost use Rattle.isoform.specs.Inputs.{IsElectronShift};
+ghost use Rattle.isoform.specs.Outside.{IsPart, Puts, shelved};
+ghost use Rattle.isoform.specs.Refusals.{GivesInput};
+ghost use Rattle.isoform.specs.Reports.{asked_cover, cover_report};
+ghost use Rattle.isoform.specs.Steps.{ion_step};
+ghost use Rattle.report_text.specs.ReportLines.{IsPrintedWith, isotopologue_line};
 
 use crate::input_fault::InputFault;
-use crate::inputs::table_of;
+use crate::inputs::{adduct_in, table_of, traced_table};
 use crate::output::put_text;
 use crate::refusal::Refusal;
+use adducts::{Adduct, ion_of};
 use command_words::Word;
 use cover_certificate::{Cover, CoverFault, CoverMember, cover_of};
 use element_table::Table;
-use formula_text::read_formula;
+use formula_text::{Formula, read_formula};
 use outside_ports::{Shelf, Sink};
 use report_text::{envelope_head, push_isotopologue_line};
 use std::alloc::Global;
 use std::marker::Model;
 
-/// The cover of a formula, with the table that it is over. It is seen as the query for it.
+/// The options of `envelope`, as its request has them.
+#[derive(Drop)]
+pub struct EnvelopeOptions {
+    pub table: Word,
+    pub tracer: Option<Word>,
+    pub adduct: Word,
+    pub formula: Word,
+    pub coverage: u64,
+}
+
+/// The cover of an ion, with the table that it is over and what is added to each mass. It is seen as the query for it.
 #[derive(Drop)]
 pub struct Envelope {
     table: Table,
     cover: Cover,
+    shift: i128,
 }
 
 impl Model for Envelope {
-    ghost use Rattle.std.specs.Prelude.{◌≡◌};
+    ghost use Rattle.std.specs.Prelude.{◌≡◌, All};
     ghost use Rattle.cover_certificate.specs.FormulaCovers.{cover_of};
+    ghost use Rattle.report_text.specs.ReportLines.{IsPrintedWith, cover_members};
     ghost use Rattle.isoform.specs.Claims.{HoldsTrue};
+    ghost use Rattle.isoform.specs.Inputs.{IsElectronShift};
     ghost use Rattle.isoform.specs.Queries.{CoverQuery};
 
     ghost Value = { CoverQuery };
 
-    ghost view = { λ e. record { table = e.table; formula = e.cover.formula; coverage = e.cover.coverage } };
+    ghost view = { λ e. record {
+      table = e.table;
+      ion = e.cover.formula;
+      shift = e.shift;
+      coverage = e.cover.coverage;
+    } };
 
-    ghost invariant = { λ e. (e.cover ≡ cover_of e.table e.cover.formula e.cover.coverage) × HoldsTrue e.table e.cover };
+    ghost invariant = { λ e. (e.cover ≡ cover_of e.table e.cover.formula e.cover.coverage)
+        × HoldsTrue e.table e.cover
+        × All (IsPrintedWith e.shift) (cover_members e.cover)
+        × IsElectronShift e.shift };
 }
 
 impl Envelope {
-    /// Reads what an envelope is over, and makes the cover. A formula of more than 1,048,576 isotopologues is refused.
+    /// Reads what an envelope is over, and makes the cover. An ion with too many isotopologues is refused.
     pub fn read<H: Shelf>(
         alloc: Global,
-        table: &Word,
-        formula: &Word,
-        coverage: u64,
+        options: &EnvelopeOptions,
         shelf: &mut H,
     ) -> Result<Envelope, Refusal>
-        requires from { MIN_COVERAGE ≤ coverage }
-        requires to { coverage ≤ MAX_COVERAGE }
-        ensures held { H.held shelf.new ≡ H.held shelf.old }
-        ensures reads { Reads (table.now ∷ [])
-            (H.asked shelf.old) (H.asked shelf.new) (H.faults shelf.old) (H.faults shelf.new) result }
-        ensures answers { IfSome (H.held shelf.old) (λ files. AnswersAs (λ e. e)
-            (envelope_query table.now formula.now coverage files)
-            (H.asked shelf.old) (H.asked shelf.new) result) }
+        requires from { MIN_COVERAGE ≤ options.now.coverage }
+        requires to { options.now.coverage ≤ MAX_COVERAGE }
+        ensures { IsPart (λ e. e) (envelope_names options.now) (envelope_query options.now)
+            (shelved (H.held shelf.old) (H.asked shelf.old) (H.faults shelf.old))
+            (shelved (H.held shelf.new) (H.asked shelf.new) (H.faults shelf.new)) result }
     {
-        let table = table_of(alloc, table, shelf)?;
-        Ok(Envelope::over(alloc, table, formula, coverage)?)
+        let table = table_of(alloc, &options.table, shelf)?;
+        let traced = traced_table(alloc, table, &options.tracer, shelf)?;
+        Envelope::over(alloc, traced, options)
     }
 
     /// The envelope over a table.
-    fn over(
+    fn over(alloc: Global, table: Table, options: &EnvelopeOptions) -> Result<Envelope, Refusal>
+        requires from { MIN_COVERAGE ≤ options.now.coverage }
+        requires to { options.now.coverage ≤ MAX_COVERAGE }
+        ensures { GivesInput (λ e. e) (envelope_over options.now table) result }
+    {
+        let adduct = adduct_in(alloc, &table, &options.adduct)?;
+        let ion = ion_in(alloc, &table, &options.formula, &adduct)?;
+        let shift = electron_shift(&table, &adduct);
+        Envelope::of_ion(alloc, table, ion, shift, options.coverage)
+    }
+
+    /// The envelope of an ion of the table.
+    fn of_ion(
         alloc: Global,
         table: Table,
-        formula: &Word,
+        ion: Formula,
+        shift: i128,
         coverage: u64,
-    ) -> Result<Envelope, InputFault>
+    ) -> Result<Envelope, Refusal>
+        requires table { IsTable table }
+        requires formula { IsFormula ion }
+        requires known { HasItems table ion }
+        requires shift { IsElectronShift shift }
         requires from { MIN_COVERAGE ≤ coverage }
         requires to { coverage ≤ MAX_COVERAGE }
-        ensures { Gives is_memory result (envelope_over formula.now coverage table) }
+        ensures { GivesInput (λ e. e) (cover_query table ion shift coverage) result }
     {
-        let formula = read_formula(alloc, &table, formula.text().as_bytes())?;
-        match cover_of(alloc, &table, &formula, coverage) {
-            Ok(cover) => Ok(Envelope { table, cover }),
-            Err(CoverFault::Wide) => Err(InputFault::Wide(formula)),
-            Err(CoverFault::Memory) => Err(InputFault::Memory),
+        match cover_of(alloc, &table, &ion, coverage) {
+            Ok(cover) => Ok(Envelope {
+                table,
+                cover,
+                shift,
+            }),
+            Err(CoverFault::Memory) => Err(Refusal::Memory),
+            Err(CoverFault::TooMany { .. }) => Err(Refusal::Input(InputFault::Layer(ion))),
         }
     }
 
@@ -91,19 +134,49 @@ impl Envelope {
     {
         put_text(&envelope_head(alloc, &self.cover)?, out)?;
         let (members, _) = self.cover.layer().split_at(self.cover.size() as usize);
-        put_members(alloc, members, out)
+        put_members(alloc, members, self.shift, out)
     }
 }
 
+/// The ion of the formula that a text is.
+fn ion_in(alloc: Global, table: &Table, text: &Word, adduct: &Adduct) -> Result<Formula, Refusal>
+    requires { HasItems table.now adduct.now.added }
+    ensures ion { GivesInput (λ ion. ion) (ion_step table.now adduct.now text.now) result }
+    ensures formula { IfOk result IsFormula }
+    ensures known { IfOk result (HasItems table.now) }
+{
+    let formula = read_formula(alloc, table, text.text().as_bytes())?;
+    match ion_of(alloc, &formula, adduct)? {
+        Some(ion) => Ok(ion),
+        None => Err(Refusal::Input(InputFault::NoIon)),
+    }
+}
+
+/// What is added to the mass of each isotopologue of an ion of the adduct, in 10^-12 Da: the mass of as many electrons
+/// as its charge says is taken off.
+fn electron_shift(table: &Table, adduct: &Adduct) -> i128
+    ensures shift { result ≡ electron_shift table.now adduct.now }
+    ensures small { IsElectronShift result }
+    ensures table { IsTable table.now }
+{
+    -(i128::from(adduct.charge()) * i128::from(table.electron()))
+}
+
 /// Puts the lines of the members of a cover.
-fn put_members<O: Sink>(alloc: Global, members: &[CoverMember], out: &mut O) -> Result<(), Refusal>
-    ensures { Puts (flat_map (isotopologue_line (pos 0)) members.now)
+fn put_members<O: Sink>(
+    alloc: Global,
+    members: &[CoverMember],
+    shift: i128,
+    out: &mut O,
+) -> Result<(), Refusal>
+    requires { All (IsPrintedWith shift) members.now }
+    ensures { Puts (flat_map (isotopologue_line shift) members.now)
         (O.written out.old) (O.written out.new) (O.faults out.old) (O.faults out.new) result }
 {
     let mut line = Vec::new(alloc);
     for member in members {
         line.clear();
-        push_isotopologue_line(&mut line, member, 0)?;
+        push_isotopologue_line(&mut line, member, shift)?;
         put_text(&line, out)?;
     }
     Ok(())

@@ -394,7 +394,7 @@ fn wide_formulas_are_refused(rt: HostRuntime) -> Result<(), Fail> {
             table: SIXTEEN,
             status: 6,
             out: b"",
-            note: b"isoform: limit: wide of Z100\n",
+            note: b"isoform: limit: layer of Z100\n",
         },
         Case {
             formula: "O5000H5000C",
@@ -402,7 +402,7 @@ fn wide_formulas_are_refused(rt: HostRuntime) -> Result<(), Fail> {
             table: ELEMENTS,
             status: 6,
             out: b"",
-            note: b"isoform: limit: wide of CH5000O5000\n",
+            note: b"isoform: limit: layer of CH5000O5000\n",
         },
     ];
     check_cases(&rt, rt.alloc(), &cases)?;

@@ -1,86 +1,45 @@
-//! What is wrong with what the program was given: its words, and what they name.
+//! What is wrong with what the program was given: the files and the texts that its words name.
 ghost use Rattle.std.specs.Prelude.{◌≡◌, ◌++◌, IfOk};
 ghost use Rattle.isoform.specs.Notes.{fault_message, status_of_fault};
-ghost use Rattle.isoform.specs.Refusals.{of_words_fault, of_table_fault, of_alphabet_fault, of_formula_fault};
-ghost use Rattle.isoform.specs.declared.input_fault.InputFault.TheVariants.{Memory};
 
+use adducts::AdductFault;
 use alphabet_text::AlphabetFault;
-use command_words::{Word, WordsFault};
-use element_table::TableFault;
+use command_words::Word;
+use element_table::{TableFault, TracerFault};
 use formula_text::{Formula, FormulaFault};
+use golden_rules::RulesFault;
+use peak_text::PeakFault;
 use std::alloc::{AllocError, Global};
 
-/// Why what the program was given is refused. A fault of a text or a file is never want of memory.
+/// Why what the program was given is refused. Want of memory is none of these.
 #[derive(Debug, Drop)]
 pub enum InputFault {
-    /// The words are no request, or the value of an option is outside its range.
-    Words(WordsFault),
     /// The file of this name is longer than its limit.
     FileLimit(Word),
     /// The table's bytes have a fault.
     Table(TableFault),
+    /// The tracer's bytes have a fault.
+    Tracer(TracerFault),
+    /// The bytes of the peaks have a fault.
+    Peaks(PeakFault),
     /// The text of the alphabet has a fault.
     Alphabet(AlphabetFault),
+    /// The text of the adduct has a fault.
+    Adduct(AdductFault),
+    /// The bytes of the rules have a fault.
+    Rules(RulesFault),
+    /// The text of the formula after which the list is to begin has a fault.
+    After(FormulaFault),
+    /// That formula has an item that isn't of the alphabet, or a count outside its limits.
+    NotInBox,
     /// The text of the formula has a fault.
     Formula(FormulaFault),
-    /// The peak has more than 1,048,576 candidates.
+    /// The formula has no ion of the adduct.
+    NoIon,
+    /// The peak of this number has more than 1,048,576 formulas.
     CandidateLimit { peak: u64 },
-    /// The formula has more than 1,048,576 isotopologues.
-    Wide(Formula),
-    /// Want of memory.
-    Memory,
-}
-
-impl From<AllocError> for InputFault {
-    ghost from_gives = { λ _ fault. fault ≡ Memory };
-
-    fn from(_: AllocError) -> InputFault {
-        InputFault::Memory
-    }
-}
-
-impl From<WordsFault> for InputFault {
-    ghost from_gives = { λ e fault. fault ≡ of_words_fault e };
-
-    fn from(fault: WordsFault) -> InputFault {
-        match fault {
-            WordsFault::Memory => InputFault::Memory,
-            fault => InputFault::Words(fault),
-        }
-    }
-}
-
-impl From<TableFault> for InputFault {
-    ghost from_gives = { λ e fault. fault ≡ of_table_fault e };
-
-    fn from(fault: TableFault) -> InputFault {
-        match fault {
-            TableFault::Memory(_) => InputFault::Memory,
-            fault => InputFault::Table(fault),
-        }
-    }
-}
-
-impl From<AlphabetFault> for InputFault {
-    ghost from_gives = { λ e fault. fault ≡ of_alphabet_fault e };
-
-    fn from(fault: AlphabetFault) -> InputFault {
-        match fault {
-            AlphabetFault::Memory => InputFault::Memory,
-            fault => InputFault::Alphabet(fault),
-        }
-    }
-}
-
-impl From<FormulaFault> for InputFault {
-    ghost from_gives = { λ e fault. fault ≡ of_formula_fault e };
-
-    fn from(fault: FormulaFault) -> InputFault {
-        match fault {
-            FormulaFault::Memory(_) => InputFault::Memory,
-            fault => InputFault::Formula(fault),
-        }
-    }
+    /// This ion has too many isotopologues in a layer.
+    Layer(Formula),
 }
 
 impl InputFault {
@@ -89,11 +48,17 @@ impl InputFault {
         ensures { result ≡ status_of_fault self.now }
     {
         match self {
-            InputFault::Words(_) => 2,
-            InputFault::Table(_) => 3,
-            InputFault::Alphabet(_) | InputFault::Formula(_) => 5,
-            InputFault::FileLimit(_) | InputFault::CandidateLimit { .. } | InputFault::Wide(_) => 6,
-            InputFault::Memory => 9,
+            InputFault::Table(_) | InputFault::Tracer(_) => 3,
+            InputFault::Peaks(_) => 4,
+            InputFault::Alphabet(_)
+            | InputFault::Adduct(_)
+            | InputFault::Rules(_)
+            | InputFault::After(_)
+            | InputFault::NotInBox
+            | InputFault::Formula(_)
+            | InputFault::NoIon => 5,
+            InputFault::FileLimit(_) | InputFault::CandidateLimit { .. } | InputFault::Layer(_) =>
+                6,
         }
     }
 
@@ -102,25 +67,40 @@ impl InputFault {
         ensures { IfOk result (λ message. message.items ≡ fault_message self.now) }
     {
         match self {
-            InputFault::Words(fault) => Ok(fault.words(alloc)?.into_bytes()),
             InputFault::FileLimit(name) => {
                 labelled(alloc, b"limit: file ", name.text().as_bytes())
             }
             InputFault::Table(fault) => {
                 labelled(alloc, b"table: ", fault.words(alloc)?.as_bytes())
             }
+            InputFault::Tracer(fault) => {
+                labelled(alloc, b"tracer: ", fault.words(alloc)?.as_bytes())
+            }
+            InputFault::Peaks(fault) => {
+                labelled(alloc, b"peaks: ", fault.words(alloc)?.as_bytes())
+            }
             InputFault::Alphabet(fault) => {
                 labelled(alloc, b"alphabet: ", fault.words(alloc)?.as_bytes())
             }
+            InputFault::Adduct(fault) => {
+                labelled(alloc, b"adduct: ", fault.words(alloc)?.as_bytes())
+            }
+            InputFault::Rules(fault) => {
+                labelled(alloc, b"rules: ", fault.words(alloc)?.as_bytes())
+            }
+            InputFault::After(fault) => {
+                labelled(alloc, b"after: ", fault.words(alloc)?.as_bytes())
+            }
+            InputFault::NotInBox => Vec::from_slice(alloc, b"after: not in box"),
             InputFault::Formula(fault) => {
                 labelled(alloc, b"formula: ", fault.words(alloc)?.as_bytes())
             }
+            InputFault::NoIon => Vec::from_slice(alloc, b"ion: not defined"),
             InputFault::CandidateLimit { peak } => {
                 let message = format!(in alloc; "limit: candidates of peak {peak}")?;
                 Ok(message.into_bytes())
             }
-            InputFault::Wide(formula) => labelled(alloc, b"limit: wide of ", &formula.print()?),
-            InputFault::Memory => Vec::from_slice(alloc, b"memory"),
+            InputFault::Layer(ion) => labelled(alloc, b"limit: layer of ", &ion.print()?),
         }
     }
 }

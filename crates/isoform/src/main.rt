@@ -5,10 +5,10 @@
 //! status. `main` only hands it the process's own.
 //!
 //! Contracts see words and reports as their bytes, and files and streams as `outside_ports` shows them. The program
-//! stands on `command_words` for its words, on `element_table`, `alphabet_text` and `formula_text` for what it reads,
-//! on `decompose` for the formulas of a mass, on `cover_certificate` for the cover of a formula, on `report_text` for
-//! lines, and on `outside_ports` for its devices. Nothing stands above it. It gives out [`request_of`] and
-//! [`cover_of`] with their types too.
+//! stands on `command_words` for its words, on `element_table`, `peak_text`, `alphabet_text`, `adducts`,
+//! `golden_rules` and `formula_text` for what it reads, on `candidates` for the formulas of a peak, on
+//! `cover_certificate` for the cover of an ion, on `report_text` for lines, and on `outside_ports` for its devices.
+//! Nothing stands above it. It gives out [`request_of`] and [`cover_of`] with their types too.
 #![tactic(auto)]
 
 mod decomposition;
@@ -23,6 +23,8 @@ use outside_ports::{FileShelf, Sink, StreamSink};
 
 #[cfg(test)]
 mod envelope_tests;
+#[cfg(test)]
+mod option_tests;
 #[cfg(test)]
 mod tests;
 

@@ -1,11 +1,18 @@
 //! Why a run ends without its report, and the note that it leaves.
 ghost use Rattle.std.specs.Prelude.{◌≡◌, IfOk};
 ghost use Rattle.isoform.specs.Notes.{message_of, note_of, status_of};
-ghost use Rattle.isoform.specs.Refusals.{of_words_fault, refusal_of};
-ghost use Rattle.isoform.specs.declared.refusal.Refusal.TheVariants.{Memory};
+ghost use Rattle.isoform.specs.Refusals.{of_adduct_fault, of_after_fault, of_alphabet_fault, of_formula_fault};
+ghost use Rattle.isoform.specs.Refusals.{of_peak_fault, of_rules_fault, of_table_fault, of_tracer_fault, of_words_fault};
+ghost use Rattle.isoform.specs.declared.refusal.Refusal.TheVariants.{Input, Memory};
 
 use crate::input_fault::{InputFault, labelled};
+use adducts::AdductFault;
+use alphabet_text::AlphabetFault;
 use command_words::{Word, WordsFault};
+use element_table::{TableFault, TracerFault};
+use formula_text::FormulaFault;
+use golden_rules::RulesFault;
+use peak_text::PeakFault;
 use std::alloc::{AllocError, Global};
 
 /// The notes that can be told without memory.
@@ -16,7 +23,9 @@ pub const MEMORY_NOTE: &[u8] = b"isoform: memory\n";
 /// Why a run ends without its report.
 #[derive(Debug, Drop)]
 pub enum Refusal {
-    /// What the program was given is refused, by a fault that isn't want of memory.
+    /// The words are no request, or the value of an option is outside its range.
+    Words(WordsFault),
+    /// What the words name is refused.
     Input(InputFault),
     /// The file of this name could not be read.
     ReadFault(Word),
@@ -35,30 +44,118 @@ impl From<AllocError> for Refusal {
 }
 
 impl From<InputFault> for Refusal {
-    ghost from_gives = { λ e refusal. refusal ≡ refusal_of e };
+    ghost from_gives = { λ e refusal. refusal ≡ Input e };
 
     fn from(fault: InputFault) -> Refusal {
-        match fault {
-            InputFault::Memory => Refusal::Memory,
-            fault => Refusal::Input(fault),
-        }
+        Refusal::Input(fault)
     }
 }
 
 impl From<WordsFault> for Refusal {
-    ghost from_gives = { λ e refusal. refusal ≡ refusal_of (of_words_fault e) };
+    ghost from_gives = { λ e refusal. refusal ≡ of_words_fault e };
 
     fn from(fault: WordsFault) -> Refusal {
-        Refusal::from(InputFault::from(fault))
+        match fault {
+            WordsFault::Memory => Refusal::Memory,
+            fault => Refusal::Words(fault),
+        }
+    }
+}
+
+impl From<TableFault> for Refusal {
+    ghost from_gives = { λ e refusal. refusal ≡ of_table_fault e };
+
+    fn from(fault: TableFault) -> Refusal {
+        match fault {
+            TableFault::Memory(_) => Refusal::Memory,
+            fault => Refusal::Input(InputFault::Table(fault)),
+        }
+    }
+}
+
+impl From<TracerFault> for Refusal {
+    ghost from_gives = { λ e refusal. refusal ≡ of_tracer_fault e };
+
+    fn from(fault: TracerFault) -> Refusal {
+        match fault {
+            TracerFault::Memory(_) => Refusal::Memory,
+            fault => Refusal::Input(InputFault::Tracer(fault)),
+        }
+    }
+}
+
+impl From<PeakFault> for Refusal {
+    ghost from_gives = { λ e refusal. refusal ≡ of_peak_fault e };
+
+    fn from(fault: PeakFault) -> Refusal {
+        match fault {
+            PeakFault::Memory(_) => Refusal::Memory,
+            fault => Refusal::Input(InputFault::Peaks(fault)),
+        }
+    }
+}
+
+impl From<AlphabetFault> for Refusal {
+    ghost from_gives = { λ e refusal. refusal ≡ of_alphabet_fault e };
+
+    fn from(fault: AlphabetFault) -> Refusal {
+        match fault {
+            AlphabetFault::Memory => Refusal::Memory,
+            fault => Refusal::Input(InputFault::Alphabet(fault)),
+        }
+    }
+}
+
+impl From<AdductFault> for Refusal {
+    ghost from_gives = { λ e refusal. refusal ≡ of_adduct_fault e };
+
+    fn from(fault: AdductFault) -> Refusal {
+        match fault {
+            AdductFault::Memory => Refusal::Memory,
+            fault => Refusal::Input(InputFault::Adduct(fault)),
+        }
+    }
+}
+
+impl From<RulesFault> for Refusal {
+    ghost from_gives = { λ e refusal. refusal ≡ of_rules_fault e };
+
+    fn from(fault: RulesFault) -> Refusal {
+        match fault {
+            RulesFault::Memory(_) => Refusal::Memory,
+            fault => Refusal::Input(InputFault::Rules(fault)),
+        }
+    }
+}
+
+impl From<FormulaFault> for Refusal {
+    ghost from_gives = { λ e refusal. refusal ≡ of_formula_fault e };
+
+    fn from(fault: FormulaFault) -> Refusal {
+        match fault {
+            FormulaFault::Memory(_) => Refusal::Memory,
+            fault => Refusal::Input(InputFault::Formula(fault)),
+        }
     }
 }
 
 impl Refusal {
+    /// The refusal of a formula after which a list is to begin.
+    pub fn of_after(fault: FormulaFault) -> Refusal
+        ensures { result ≡ of_after_fault fault }
+    {
+        match fault {
+            FormulaFault::Memory(_) => Refusal::Memory,
+            fault => Refusal::Input(InputFault::After(fault)),
+        }
+    }
+
     /// The exit status.
     pub fn status(&self) -> u8
         ensures { result ≡ status_of self.now }
     {
         match self {
+            Refusal::Words(_) => 2,
             Refusal::Input(fault) => fault.status(),
             Refusal::ReadFault(_) => 7,
             Refusal::WriteFault => 8,
@@ -71,6 +168,7 @@ impl Refusal {
         ensures { IfOk result (λ message. message.items ≡ message_of self.now) }
     {
         match self {
+            Refusal::Words(fault) => Ok(fault.words(alloc)?.into_bytes()),
             Refusal::Input(fault) => fault.message(alloc),
             Refusal::ReadFault(name) => { labelled(alloc, b"read fault: ", name.text().as_bytes()) }
             Refusal::WriteFault => Vec::from_slice(alloc, b"write fault"),

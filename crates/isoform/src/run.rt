@@ -1,14 +1,18 @@
 //! The program: from its words and a shelf of files to an output, notes and a status.
-ghost use Rattle.std.specs.Prelude.{◌≡◌, ◌≢◌, ◌<◌, ◌⊎◌, ◌++◌, ℕ, map, take, string_bytes, Some, Result, Ok, Err, IfSome, IsOkAnd};
+ghost use Rattle.std.specs.Prelude.{◌≡◌, ◌≢◌, ◌<◌, ◌⊎◌, ◌++◌, ℕ, map, take, string_bytes, Some, Result, Ok, Err};
+ghost use Rattle.std.specs.Prelude.{IfErr, IfSome, IsErr, IsOkAnd};
 ghost use Rattle.outside_ports.specs.Faults.{Rose};
 ghost use Rattle.command_words.specs.Requests.{HasRanges};
+ghost use Rattle.command_words.specs.WordReading.{request_of};
 ghost use Rattle.isoform.specs.Answer.{answer, answer_of_request, file_names, names_of_request};
 ghost use Rattle.isoform.specs.Claims.{Holds};
-ghost use Rattle.isoform.specs.Notes.{status_of};
-ghost use Rattle.isoform.specs.Outside.{EndsAs, IsPut, IsTold, ReceivesAll, Runs, Shows, TellsNote, outside, status_of_answer};
+ghost use Rattle.isoform.specs.Notes.{note_of, status_of};
+ghost use Rattle.isoform.specs.Outside.{EndsAs, IsPut, IsTold, NoWordsFault, ReceivesAll, ReceivesSomeOf, RefusesWords};
+ghost use Rattle.isoform.specs.Outside.{Runs, Shows, TellsLastName, TellsNote, outside, status_of_answer};
+ghost use Rattle.isoform.specs.declared.refusal.Refusal.TheVariants.{Memory, WriteFault};
 
-use crate::decomposition::Decomposition;
-use crate::envelope::Envelope;
+use crate::decomposition::{DecomposeOptions, Decomposition};
+use crate::envelope::{Envelope, EnvelopeOptions};
 use crate::refusal::{MEMORY_NOTE, Refusal, WRITE_FAULT_NOTE};
 use command_words::{Request, request_of};
 use outside_ports::{Shelf, Sink};
@@ -17,16 +21,17 @@ use std::alloc::{AllocError, Global};
 /// Serves a request: reads what it is over, and writes the report or says why there is none.
 fn serve_request<H: Shelf, O: Sink>(
     alloc: Global,
-    request: &Request,
+    request: Request,
     shelf: &mut H,
     out: &mut O,
 ) -> Result<(), Refusal>
-    requires { HasRanges request.now }
+    requires { HasRanges request }
     ensures held { H.held shelf.new ≡ H.held shelf.old }
-    ensures shows { Shows (names_of_request request.now)
+    ensures words { NoWordsFault result }
+    ensures shows { Shows (names_of_request request)
         (outside (H.asked shelf.old) (H.faults shelf.old) (O.written out.old) (O.faults out.old))
         (outside (H.asked shelf.new) (H.faults shelf.new) (O.written out.new) (O.faults out.new)) result }
-    ensures answers { IfSome (H.held shelf.old) (λ files. EndsAs (answer_of_request request.now files)
+    ensures answers { IfSome (H.held shelf.old) (λ files. EndsAs (answer_of_request request files)
         (outside (H.asked shelf.old) (H.faults shelf.old) (O.written out.old) (O.faults out.old))
         (outside (H.asked shelf.new) (H.faults shelf.new) (O.written out.new) (O.faults out.new)) result) }
 {
@@ -34,20 +39,43 @@ fn serve_request<H: Shelf, O: Sink>(
         Request::Decompose {
             table,
             mass,
+            peaks,
             tolerance,
             alphabet,
+            adduct,
+            rules,
+            limit,
+            after,
         } => {
-            let decomposition = Decomposition::read(
-                alloc, table, *mass, *tolerance, alphabet, shelf,
-            )?;
+            let options = DecomposeOptions {
+                table,
+                mass,
+                peaks,
+                tolerance,
+                alphabet,
+                adduct,
+                rules,
+                limit,
+                after,
+            };
+            let decomposition = Decomposition::read(alloc, &options, shelf)?;
             decomposition.write(alloc, out)
         }
         Request::Envelope {
             table,
+            tracer,
+            adduct,
             formula,
             coverage,
         } => {
-            let envelope = Envelope::read(alloc, table, formula, *coverage, shelf)?;
+            let options = EnvelopeOptions {
+                table,
+                tracer,
+                adduct,
+                formula,
+                coverage,
+            };
+            let envelope = Envelope::read(alloc, &options, shelf)?;
             envelope.write(alloc, out)
         }
     }
@@ -61,6 +89,7 @@ fn serve<H: Shelf, O: Sink>(
     out: &mut O,
 ) -> Result<(), Refusal>
     ensures held { H.held shelf.new ≡ H.held shelf.old }
+    ensures words { RefusesWords (request_of (map string_bytes words.now.items)) result }
     ensures shows { Shows (file_names (map string_bytes words.now.items))
         (outside (H.asked shelf.old) (H.faults shelf.old) (O.written out.old) (O.faults out.old))
         (outside (H.asked shelf.new) (H.faults shelf.new) (O.written out.new) (O.faults out.new)) result }
@@ -69,14 +98,14 @@ fn serve<H: Shelf, O: Sink>(
         (outside (H.asked shelf.new) (H.faults shelf.new) (O.written out.new) (O.faults out.new)) result) }
 {
     let request = request_of(alloc, words)?;
-    serve_request(alloc, &request, shelf, out)
+    serve_request(alloc, request, shelf, out)
 }
 
 /// Tells the notes why there is no report, and answers the status. Where there is no memory for the
 /// note, want of memory is told.
 fn refuse<M: Sink>(alloc: Global, refusal: Refusal, notes: &mut M) -> u8
     ensures { (told : Refusal) × IsTold refusal told × (result ≡ status_of told)
-        × TellsNote (M.written notes.old) (M.faults notes.old) (M.written notes.new) (M.faults notes.new) (Err told) }
+        × IsPut (note_of told) (M.written notes.old) (M.faults notes.old) (M.written notes.new) (M.faults notes.new) }
 {
     match &refusal {
         Refusal::WriteFault => tell(WRITE_FAULT_NOTE, notes),
@@ -101,10 +130,11 @@ fn tell<M: Sink>(note: &[u8], notes: &mut M)
 
 /// Runs the program on the words behind its name, and answers its exit status.
 ///
-/// Status 0: the report was written. 2: the words are no request, or a value is outside its range.
-/// 3: the table has a fault. 5: the alphabet or the formula has one. 6: the table file is longer than
-/// 16,777,216 bytes, or there are more than 1,048,576 candidates, or the formula has more than 1,048,576
-/// isotopologues. 7: a file could not be read. 8: the report could not be written. 9: want of memory.
+/// Status 0: the report was written. 2: the words are no request, or a value is outside its range. 3: the table or the
+/// tracer has a fault. 4: the peaks have one. 5: the alphabet, the adduct, the rules, the formula after which a list is
+/// to begin or the formula has one, that formula isn't in the box, or the ion isn't defined. 6: a file is longer than
+/// 16,777,216 bytes, a peak has more than 1,048,576 formulas where no number of them is asked for, or the ion has too
+/// many isotopologues. 7: a file could not be read. 8: the report could not be written. 9: want of memory.
 /// With every status but 0 the notes receive one line.
 pub fn run<H: Shelf, O: Sink, M: Sink>(
     alloc: Global,
@@ -119,13 +149,13 @@ pub fn run<H: Shelf, O: Sink, M: Sink>(
     // The whole: the run ends as the answer for its words and the files says, or by a device that failed, or for want
     // of memory; and the shelf, the output and the notes show that ending.
     ensures runs { let given = map string_bytes words.now.items in
-        Runs (file_names given) (H.held shelf.old) (answer given)
+        Runs (file_names given) (request_of given) (H.held shelf.old) (answer given)
         (outside (H.asked shelf.old) (H.faults shelf.old) (O.written out.old) (O.faults out.old))
         (outside (H.asked shelf.new) (H.faults shelf.new) (O.written out.new) (O.faults out.new))
         (M.written notes.old) (M.faults notes.old) (M.written notes.new) (M.faults notes.new) result }
 
     // Its parts, each to be read alone. Status 0: `out` received the report, and what it claims holds: the formulas of
-    // `decompose` are those of the peak, each once and in order; the isotopologues of `envelope` have the coverage in
+    // `decompose` are those of each peak, each once and in order; the isotopologues of `envelope` have the coverage in
     // exact weights, and no set with fewer members than its bound has it.
     ensures reported { result ≡ 0 → IfSome (H.held shelf.old) (λ files.
         IsOkAnd (answer (map string_bytes words.now.items) files).result (λ outcome.
@@ -140,6 +170,10 @@ pub fn run<H: Shelf, O: Sink, M: Sink>(
         IfSome (H.held shelf.old) (λ files.
         (result ≡ 9) ⊎ (result ≡ status_of_answer (answer (map string_bytes words.now.items) files))) }
 
+    // Status 2 comes exactly where the words are no request, whatever the shelf tells, unless memory ran out.
+    ensures refused_words { result ≡ 2 → IsErr (request_of (map string_bytes words.now.items)) }
+    ensures no_request { IfErr (request_of (map string_bytes words.now.items)) (λ fault. (result ≡ 2) ⊎ (result ≡ 9)) }
+
     // A device is blamed only where its count of faults rose in this run, and always where it is greater.
     ensures read_fault { result ≡ 7 → Rose (H.faults shelf.old) (H.faults shelf.new) }
     ensures write_fault { result ≡ 8 → Rose (O.faults out.old) (O.faults out.new) }
@@ -150,8 +184,25 @@ pub fn run<H: Shelf, O: Sink, M: Sink>(
     ensures asked { (asked : ℕ) × (H.asked shelf.new
         ≡ H.asked shelf.old ++ take asked (file_names (map string_bytes words.now.items))) }
 
-    // With a status other than 0, 8 and 9 nothing was received.
+    // With status 8 or 9 some first bytes of the report were received, and none where there is no report; with a
+    // status other than 0, 8 and 9 nothing was.
+    ensures some_received { (result ≡ 8) ⊎ (result ≡ 9) → IfSome (H.held shelf.old) (λ files.
+        ReceivesSomeOf (answer (map string_bytes words.now.items) files).result (O.written out.old) (O.written out.new)) }
     ensures nothing { result ≢ 0 → result ≢ 8 → result ≢ 9 → O.written out.new ≡ O.written out.old }
+
+    // The notes receive nothing with status 0, that of the answer's refusal with the status of the answer, the last
+    // name asked with status 7, and a text of their own with status 8 and 9; or some first bytes of these, where their
+    // own count of faults rose.
+    ensures noted { result ≢ 7 → result ≢ 8 → result ≢ 9 → IfSome (H.held shelf.old) (λ files.
+        TellsNote (M.written notes.old) (M.faults notes.old) (M.written notes.new) (M.faults notes.new)
+        (answer (map string_bytes words.now.items) files).result) }
+    ensures silent { result ≡ 0 → M.written notes.new ≡ M.written notes.old }
+    ensures last_name { result ≡ 7 → TellsLastName (H.asked shelf.new)
+        (M.written notes.old) (M.faults notes.old) (M.written notes.new) (M.faults notes.new) }
+    ensures write_note { result ≡ 8 → IsPut (note_of WriteFault)
+        (M.written notes.old) (M.faults notes.old) (M.written notes.new) (M.faults notes.new) }
+    ensures memory_note { result ≡ 9 → IsPut (note_of Memory)
+        (M.written notes.old) (M.faults notes.old) (M.written notes.new) (M.faults notes.new) }
 {
     match serve(alloc, words, shelf, out) {
         Ok(()) => 0,

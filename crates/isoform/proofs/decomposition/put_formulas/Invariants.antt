@@ -1,22 +1,22 @@
-use Rattle.std.proofs.Common.{◌≡◌, ℕ, ◌≤◌, List, ◌++◌, length}
+use Rattle.std.proofs.Common.{◌≡◌, ℕ, List, ◌++◌, length}
 use Rattle.std.specs.Prelude.{Ok}
-use Rattle.std.specs.List.{filter_map, flat_map}
-use Rattle.decompose.specs.Enumeration.{left}
+use Rattle.std.specs.List.{flat_map}
+use Rattle.candidates.specs.Enumeration.{counts_left}
+use Rattle.candidates.specs.Lines.{line_at}
 use Rattle.isoform.specs.Outside.{Puts}
-use Rattle.isoform.specs.PeakFormulas.{formula_of_items}
-use Rattle.isoform.specs.Reports.{neutral_line}
+use Rattle.isoform.specs.PageFormulas.{first_of}
 use Rattle.isoform.proofs.decomposition.put_formulas.Given as goal
 
--- the lines of the formulas done were put, and these lists and those left are all
-abbrev pub invariant-lists : goal.invariant-lists
-invariant-lists g l =
+-- the lines of the lists done were put, and these lists and those left of the page are all of it
+abbrev pub invariant-formulas : goal.invariant-formulas
+invariant-formulas g l =
     (done : List (List ℕ))
-    × (done ++ left l.decomps ≡ left l.initial.decomps)
-    × Puts (flat_map (neutral_line l.table l.mz) (filter_map (formula_of_items l.items) done))
+    × (done ++ first_of l.most (counts_left l.candidates) ≡ first_of l.fn.limit (counts_left l.initial.candidates))
+    × Puts (flat_map (line_at l.initial.candidates.premises l.initial.candidates.mz) done)
     (g.O.Sink.written l.initial.out) (g.O.Sink.written l.out)
     (g.O.Sink.faults l.initial.out) (g.O.Sink.faults l.out) (Ok tt)
-    × (length l.counts ≡ length l.items)
-    × (length l.decomps.masses ≡ length l.items)
+    × (l.candidates.premises ≡ l.initial.candidates.premises)
+    × (l.candidates.mz ≡ l.initial.candidates.mz)
 
-abbrev pub decreases-lists : goal.decreases-lists
-decreases-lists g l = length (left l.decomps)
+abbrev pub decreases-formulas : goal.decreases-formulas
+decreases-formulas g l = length (counts_left l.candidates)

@@ -1,5 +1,5 @@
 use Rattle.std.proofs.Common.{take}
-use Rattle.std.specs.Prelude.{pos, Ok}
+use Rattle.std.specs.Prelude.{Ok}
 use Rattle.std.specs.List.{flat_map}
 use Rattle.isoform.specs.Outside.{Puts}
 use Rattle.report_text.specs.ReportLines.{isotopologue_line}
@@ -8,6 +8,6 @@ use Rattle.isoform.proofs.envelope.put_members.Given as goal
 -- the lines of the members so far were put
 abbrev pub invariant-loop-member : goal.invariant-loop-member
 invariant-loop-member g l =
-    Puts (flat_map (isotopologue_line (pos 0)) (take l.member-index l.members))
+    Puts (flat_map (isotopologue_line l.fn.shift) (take l.member-index l.members))
     (g.O.Sink.written l.initial.out) (g.O.Sink.written l.out)
     (g.O.Sink.faults l.initial.out) (g.O.Sink.faults l.out) (Ok tt)

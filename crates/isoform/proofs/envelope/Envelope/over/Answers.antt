@@ -1,16 +1,54 @@
-use Rattle.std.proofs.Common.{ap, sym, ◌∙◌}
-use Rattle.formula_text.specs.FormulaReader.{read_of}
-use Rattle.isoform.proofs.CoverQueries.{holds_of_given, is_cover_of, query_of_given}
+use Rattle.std.proofs.Common.{SFits, ℕ, List, subst}
+use Rattle.std.specs.Prelude.{ℤ, Result, Err}
+use Rattle.std.proofs.lemmas.Result.{err_from_is_err_and}
+use Rattle.reader_answers.specs.Answers.{◌>>=◌}
+use Rattle.element_table.specs.Elements.{TableEntries}
+use Rattle.adducts.specs.Adducts.{AdductValue}
+use Rattle.isoform.specs.Answer.{cover_query, electron_shift}
+use Rattle.isoform.specs.Queries.{CoverQuery}
+use Rattle.isoform.specs.Refusals.{GivesInput}
+use Rattle.isoform.specs.Steps.{adduct_step, ion_step}
+use Rattle.isoform.specs.declared.envelope.EnvelopeOptions.{EnvelopeOptions}
+use Rattle.isoform.specs.declared.input_fault.InputFault.{InputFault}
+use Rattle.std.specs.Int.{w128}
+use Rattle.std.proofs.lemmas.Int.{to_z-of_z}
+use Rattle.isoform.proofs.PrintedMasses.{fits_small}
+use Rattle.isoform.proofs.GivenFaults.{gives_next, gives_stop}
 use Rattle.isoform.proofs.envelope.Envelope.over.Goals as goal
 
-pub invariant_of-result : goal.invariant_of-result
-invariant_of-result c =
-    holds_of_given c.args.table c.in_ok-formula.formula c.args.coverage c.in-Ok.cover
-    (is_cover_of c.args.table c.in_ok-formula.formula c.args.coverage c.in-Ok.cover c.in-Ok.ensures.cover)
-    c.in-Ok.ensures.claims c.in-Ok.ensures.encloses
+-- what follows the adduct
+abbrev behind_adduct : EnvelopeOptions → TableEntries → AdductValue → Result CoverQuery InputFault
+behind_adduct options table adduct =
+    ion_step table adduct options.formula >>= λ ion. cover_query table ion (electron_shift table adduct) options.coverage
 
-pub returns-in-Ok : goal.returns-in-Ok
-returns-in-Ok c =
-    query_of_given c.args.table c.args.formula.now c.in_ok-formula.formula c.args.coverage c.in-Ok.cover
-    (ap (read_of c.args.table) (sym (c.as_bytes.ensures.value ∙ c.text.ensures)) ∙ c.in_ok-formula.ensures.gives)
-    c.in-Ok.ensures.cover
+pub returns-in_err-adduct : goal.returns-in_err-adduct
+returns-in_err-adduct c =
+    let o = c.args.options.now in
+    let given = err_from_is_err_and c.from_residual.result c.from_residual.ensures.1 in
+    rw (given.1, given.2) (gives_stop (λ a. a) (λ e. e) (adduct_step c.args.table o.adduct)
+    (behind_adduct o c.args.table) _ c.in_err-adduct.ensures.adduct)
+
+pub returns-in_err-ion : goal.returns-in_err-ion
+returns-in_err-ion c =
+    let o = c.args.options.now in
+    let adduct = c.in_ok-adduct.adduct in
+    let given = err_from_is_err_and c.from_residual-in_err-ion.result c.from_residual-in_err-ion.ensures.1 in
+    rw (given.1, given.2) (gives_next (λ e. e) (adduct_step c.args.table o.adduct) (behind_adduct o c.args.table)
+    adduct (Err c.in_err-ion.field-0.0) c.in_ok-adduct.ensures.adduct
+    (gives_stop (λ i. i) (λ e. e) (ion_step c.args.table adduct o.formula)
+    (λ ion. cover_query c.args.table ion (electron_shift c.args.table adduct) o.coverage) _ c.in_err-ion.ensures.ion))
+
+pub returns : goal.returns
+returns c =
+    let o = c.args.options.now in
+    let adduct = c.in_ok-adduct.adduct in
+    let ion = c.in_ok-ion.ion in
+    let fits : SFits w128 c.electron_shift-shift.result =
+    fits_small c.electron_shift-shift.result c.electron_shift-shift.ensures.small in
+    gives_next (λ e. e) (adduct_step c.args.table o.adduct) (behind_adduct o c.args.table)
+    adduct c.of_ion.result c.in_ok-adduct.ensures.adduct
+    (gives_next (λ e. e) (ion_step c.args.table adduct o.formula)
+    (λ ion. cover_query c.args.table ion (electron_shift c.args.table adduct) o.coverage) ion c.of_ion.result
+    c.in_ok-ion.ensures.ion
+    (subst (λ (s : ℤ). GivesInput (λ e. e) (cover_query c.args.table ion s o.coverage) c.of_ion.result)
+    c.electron_shift-shift.ensures.shift (simp to_z-of_z at c.of_ion.ensures)))

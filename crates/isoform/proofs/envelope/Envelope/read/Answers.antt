@@ -1,20 +1,42 @@
+use Rattle.std.proofs.Common.{ℕ, List, [], ◌∷◌}
 use Rattle.std.proofs.lemmas.Result.{err_from_is_err_and}
+use Rattle.outside_ports.specs.Files.{Files}
+use Rattle.element_table.specs.Elements.{TableEntries}
 use Rattle.isoform.specs.Answer.{envelope_over}
-use Rattle.isoform.specs.Steps.{table_step}
-use Rattle.isoform.proofs.PartLaws.{answers_refused, if_some_map, reads_refused}
+use Rattle.isoform.specs.Asked.{Asked, asks_none, ◌and_then◌}
+use Rattle.isoform.specs.Queries.{CoverQuery}
+use Rattle.isoform.specs.Steps.{table_step, tracer_names, tracer_step}
+use Rattle.isoform.specs.declared.envelope.EnvelopeOptions.{EnvelopeOptions}
+use Rattle.isoform.proofs.PartLaws.{part_end, part_end_stop, part_next, part_stop}
 use Rattle.isoform.proofs.envelope.Envelope.read.Goals as goal
 
-pub returns-in_err-over-clause-reads : goal.returns-in_err-over-clause-reads
-returns-in_err-over-clause-reads g c =
-    let given = err_from_is_err_and c.from_residual-in_err-over.result c.from_residual-in_err-over.ensures.1 in
-    rw (given.1, given.2) (reads_refused _ _ _ _ _ _ c.in_err-over.field-0.0 c.in_ok-table.ensures.reads)
+-- what follows the table
+abbrev behind_table : EnvelopeOptions → TableEntries → Files → Asked CoverQuery
+behind_table options table files =
+    tracer_step table options.tracer files and_then λ traced. asks_none (envelope_over options traced)
 
-pub returns-in_err-over-clause-answers : goal.returns-in_err-over-clause-answers
-returns-in_err-over-clause-answers g c =
-    let given = err_from_is_err_and c.from_residual-in_err-over.result c.from_residual-in_err-over.ensures.1 in
-    rw (given.1, given.2) (if_some_map (g.H.Shelf.held c.args.shelf.now) _ _
-    (λ files answers. answers_refused (λ t. t) (λ e. e) (table_step c.args.table.now files)
-    (envelope_over c.args.formula.now c.args.coverage)
-    (g.H.Shelf.asked c.args.shelf.now) (g.H.Shelf.asked c.table_of.new.shelf) c.in_ok-table.table
-    c.in_err-over.field-0.0 answers c.in_err-over.ensures)
-    c.in_ok-table.ensures.answers)
+pub returns-in_err-table : goal.returns-in_err-table
+returns-in_err-table g c =
+    let o = c.args.options.now in
+    let given = err_from_is_err_and c.from_residual.result c.from_residual.ensures.1 in
+    rw (given.1, given.2) (part_stop (λ t. t) (λ e. e) (o.table ∷ []) (tracer_names o.tracer) (table_step o.table)
+    (behind_table o) _ _ _ c.in_err-table.ensures)
+
+pub returns-in_err-traced : goal.returns-in_err-traced
+returns-in_err-traced g c =
+    let o = c.args.options.now in
+    let table = c.in_ok-table.table in
+    let given = err_from_is_err_and c.from_residual-in_err-traced.result c.from_residual-in_err-traced.ensures.1 in
+    rw (given.1, given.2) (part_next (λ t. t) (λ e. e) (o.table ∷ []) (tracer_names o.tracer) (table_step o.table)
+    (behind_table o) _ _ _ table _ c.in_ok-table.ensures
+    (part_end_stop (λ t. t) (λ e. e) (tracer_names o.tracer) (tracer_step table o.tracer) (envelope_over o) _ _ _
+    c.in_err-traced.ensures))
+
+pub returns : goal.returns
+returns g c =
+    let o = c.args.options.now in
+    let table = c.in_ok-table.table in
+    part_next (λ t. t) (λ e. e) (o.table ∷ []) (tracer_names o.tracer) (table_step o.table)
+    (behind_table o) _ _ _ table _ c.in_ok-table.ensures
+    (part_end (λ t. t) (λ e. e) (tracer_names o.tracer) (tracer_step table o.tracer) (envelope_over o) _ _
+    c.in_ok-traced.traced c.over.result c.in_ok-traced.ensures c.over.ensures)

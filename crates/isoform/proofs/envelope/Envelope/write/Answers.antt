@@ -1,42 +1,57 @@
-use Rattle.std.proofs.Common.{◌≡◌, ℕ, List, ◌++◌, take, ap, sym, ◌∙◌, subst, refl}
-use Rattle.std.specs.Prelude.{pos, Ok, Err}
+use Rattle.std.proofs.Common.{SFits, ◌≡◌, ℕ, List, ◌++◌, take, ap, sym, ◌∙◌, subst, refl}
+use Rattle.std.specs.Prelude.{ℤ, All, Ok, Err}
 use Rattle.std.proofs.lemmas.Result.{err_from_is_err_and}
 use Rattle.std.specs.List.{flat_map}
 use Rattle.cover_certificate.specs.FormulaCovers.{CoverEntries, MemberEntry}
-use Rattle.isoform.specs.Answer.{cover_report}
 use Rattle.isoform.specs.Outside.{Puts}
-use Rattle.report_text.specs.ReportLines.{cover_members, envelope_head, envelope_text, isotopologue_line}
+use Rattle.isoform.specs.Reports.{cover_report}
+use Rattle.report_text.specs.ReportLines.{IsPrintedWith, cover_members, envelope_head, envelope_text, isotopologue_line}
+use Rattle.std.specs.Int.{w128}
+use Rattle.std.proofs.lemmas.Int.{to_z-of_z}
+use Rattle.isoform.proofs.PrintedMasses.{fits_small}
 use Rattle.isoform.proofs.Puts.{puts_next, puts_stop}
 use Rattle.isoform.proofs.envelope.Envelope.write.Goals as goal
 
 -- a head and the lines behind it are the report
-whole : (cover : CoverEntries) →
-    envelope_head cover ++ flat_map (isotopologue_line (pos 0)) (cover_members cover) ≡ envelope_text (pos 0) cover
-whole cover = refl
+whole : (shift : ℤ) (cover : CoverEntries) →
+    envelope_head cover ++ flat_map (isotopologue_line shift) (cover_members cover) ≡ envelope_text shift cover
+whole shift cover = refl
 
 pub returns-in_err-put_text-clause-puts : goal.returns-in_err-put_text-clause-puts
 returns-in_err-put_text-clause-puts g c =
     let cover = c.self.inside.cover in
-    let lines : List ℕ = flat_map (isotopologue_line (pos 0)) (cover_members cover) in
+    let shift = c.self.inside.shift in
+    let lines : List ℕ = flat_map (isotopologue_line shift) (cover_members cover) in
     let given = err_from_is_err_and c.from_residual-in_err-put_text.result c.from_residual-in_err-put_text.ensures.1 in
     let head : c.deref.result.now ≡ envelope_head cover = c.deref.ensures.value ∙ c.in_ok-envelope_head.ensures in
     rw (given.1, given.2)
     (subst (λ (t : List ℕ). Puts t (g.O.Sink.written c.args.out.now) (g.O.Sink.written c.put_text.new.out)
     (g.O.Sink.faults c.args.out.now) (g.O.Sink.faults c.put_text.new.out) (Err c.in_err-put_text.field-0.0))
-    (ap (λ t. t ++ lines) head ∙ whole cover ∙ ap (envelope_text (pos 0)) c.self.invariant.0 ∙ ap cover_report c.self.view_is)
+    (ap (λ t. t ++ lines) head ∙ whole shift cover ∙ ap (envelope_text shift) c.self.invariant.0
+    ∙ ap cover_report c.self.view_is)
     (puts_stop c.deref.result.now lines _ _ _ _ _ c.in_err-put_text.ensures))
+
+pub put_members-requires : goal.put_members-requires
+put_members-requires g c =
+    let fits : SFits w128 c.self.inside.shift = fits_small c.self.inside.shift c.self.invariant.3 in
+    let cover = c.self.inside.cover in
+    let front : c.split_at.result.0.now ≡ cover_members cover =
+    rw (c.split_at.ensures.front, c.size.ensures.size, c.layer.ensures) refl in
+    simp to_z-of_z (subst (All (IsPrintedWith c.self.inside.shift)) (sym front) c.self.invariant.2)
 
 pub returns-clause-puts : goal.returns-clause-puts
 returns-clause-puts g c =
+    let fits : SFits w128 c.self.inside.shift = fits_small c.self.inside.shift c.self.invariant.3 in
     let cover = c.self.inside.cover in
+    let shift = c.self.inside.shift in
     let members : List MemberEntry = c.split_at.result.0.now in
     let head : c.deref.result.now ≡ envelope_head cover = c.deref.ensures.value ∙ c.in_ok-envelope_head.ensures in
     let front : members ≡ cover_members cover =
     rw (c.split_at.ensures.front, c.size.ensures.size, c.layer.ensures) refl in
     subst (λ (t : List ℕ). Puts t (g.O.Sink.written c.args.out.now) (g.O.Sink.written c.put_members.new.out)
     (g.O.Sink.faults c.args.out.now) (g.O.Sink.faults c.put_members.new.out) c.put_members.result)
-    (ap (λ t. t ++ flat_map (isotopologue_line (pos 0)) members) head
-    ∙ ap (λ ms. envelope_head cover ++ flat_map (isotopologue_line (pos 0)) ms) front
-    ∙ whole cover ∙ ap (envelope_text (pos 0)) c.self.invariant.0 ∙ ap cover_report c.self.view_is)
-    (puts_next c.deref.result.now (flat_map (isotopologue_line (pos 0)) members) _ _ _ _ _ _ _ c.in_ok-put_text.ensures
-    c.put_members.ensures)
+    (ap (λ t. t ++ flat_map (isotopologue_line shift) members) head
+    ∙ ap (λ ms. envelope_head cover ++ flat_map (isotopologue_line shift) ms) front
+    ∙ whole shift cover ∙ ap (envelope_text shift) c.self.invariant.0 ∙ ap cover_report c.self.view_is)
+    (puts_next c.deref.result.now (flat_map (isotopologue_line shift) members) _ _ _ _ _ _ _ c.in_ok-put_text.ensures
+    (simp to_z-of_z at c.put_members.ensures))

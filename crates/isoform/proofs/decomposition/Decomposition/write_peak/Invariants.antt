@@ -1,4 +1,4 @@
-use Rattle.isoform.proofs.decomposition.Decomposition.write_formulas.Given as goal
+use Rattle.isoform.proofs.decomposition.Decomposition.write_peak.Given as goal
 
 abbrev pub ghosts-put_formulas : goal.ghosts-put_formulas
 ghosts-put_formulas g a = record { name = a.blank.name; parts = a.blank.parts }
