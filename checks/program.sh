@@ -118,10 +118,14 @@ C100Cl40 0.999 105
 O1446 0.999999 97
 END
 expect 0 "" "1,047,628 isotopologues of one element" envelope elements.csv O1446 0.999999
-expect 6 "isoform: limit: wide of O1447" "1,049,076 isotopologues of one element" envelope elements.csv O1447 0.999999
+expect 0 "" "1,049,076 isotopologues of one element" envelope elements.csv O1447 0.999999
 expect 0 "" "1,048,576 isotopologues of 20 elements" envelope pairs.csv "$(printf %s {A..T}a)" 0.999999
 lines 1048534 "1,048,576 isotopologues of 20 elements"
-expect 6 "isoform: limit: wide of $(printf %s {A..S}a)Ta2" "more isotopologues of 20 elements" envelope pairs.csv "$(printf %s {A..T}a)Ta" 0.5
+{
+    printf "$head"
+    for number in {30..45}; do echo "Z,$number,$number,0.05,1"; done
+} >z.csv
+expect 6 "isoform: limit: layer of Z100" "a layer of more than 1,048,576 isotopologues" envelope z.csv Z100 0.5
 expect 5 "isoform: formula: too many elements" "a formula of 21 elements" envelope elements120.csv "$(printf %s C{a..u})" 0.5
 expect 2 "isoform: value: --coverage" "a coverage above 0.999999" envelope elements.csv CO2 0.9999991
 
@@ -130,6 +134,29 @@ in_another_order() { "$root/isoform" decompose --alphabet=AB --da 0.00001 --mass
 expect 2 "isoform: words" "a tenth word" "$root/isoform" decompose --table ab.csv --mass 10 --da 0 --alphabet AB more
 expect 0 "" "words in another order" in_another_order
 lines 4 "words in another order"
+
+# Peaks, adducts, rules and tracers from files.
+peaks() { "$root/isoform" decompose --table elements.csv --peaks "$1" --adduct '[M+Na]+' --ppm 5 --alphabet CHO --rules "$2" >out; }
+traced() { "$root/isoform" envelope --table elements.csv --tracer "$1" --formula CO2 --coverage 0.9 >out; }
+printf 'mz,intensity\r\n203.0526,125000\r\n' >sugar.csv
+printf '# own\n\nratio H C 3 1\n' >empty.rules
+printf 'symbol,number,abundance12\nC,12,0\nC,13,1\n' >labelled.csv
+printf 'symbol,number,abundance12\nC,14,1\n' >other.csv
+{ echo mz,intensity; for number in $(seq 10001); do echo "$number,1"; done; } >many.csv
+expect 0 "" "a peak list with an adduct and rules" peaks sugar.csv golden
+lines 3 "a peak list with an adduct and rules"
+expect 7 "isoform: read fault: absent.csv" "peaks that are not there" peaks absent.csv golden
+expect 7 "isoform: read fault: folder" "a folder as peaks" peaks folder golden
+expect 6 "isoform: limit: file long.csv" "peaks that are too long" peaks long.csv golden
+expect 4 "isoform: peaks: record 1: header" "peaks of another header" peaks whole.csv golden
+expect 4 "isoform: peaks: record 10002: too many" "10,001 peaks" peaks many.csv golden
+expect 7 "isoform: read fault: absent.rules" "rules that are not there" peaks sugar.csv absent.rules
+expect 6 "isoform: limit: file long.csv" "rules that are too long" peaks sugar.csv long.csv
+expect 5 "isoform: rules: line 3: empty range" "rules with an empty range" peaks sugar.csv empty.rules
+expect 0 "" "a tracer" traced labelled.csv
+expect 3 "isoform: tracer: record 2: mass number" "a tracer of an unknown isotope" traced other.csv
+expect 7 "isoform: read fault: absent.csv" "a tracer that is not there" traced absent.csv
+expect 6 "isoform: limit: file long.csv" "a tracer that is too long" traced long.csv
 
 # Reports longer than the output's buffer.
 printf "${head}A,1,0.5,1,1\nB,1,0.5,1,1\nC,1,0.5,1,1\nD,1,0.5,1,1\n" >light.csv
