@@ -1,7 +1,6 @@
 -- A cover that was given is the one that its query asks for, what it claims holds, and its masses can be printed.
-use Rattle.std.proofs.Common.{◌≡◌, ℕ, ◌+◌, ◌*◌, ◌^◌, ◌<◌, ◌≤◌, Bool, true, false, cond, List, length, take, get_or, map, refl, sym, ap, ◌∙◌, subst, arith, lit≤, le_trans}
-use Rattle.std.specs.Prelude.{ℤ, pos, ◌+ℤ◌, Result, Ok, Err, All, sum}
-use Rattle.std.proofs.lemmas.Int.{ints}
+use Rattle.std.proofs.Common.{◌≡◌, ℕ, Bool, true, false, cond, List, map, refl, sym, ap, ◌∙◌, subst}
+use Rattle.std.specs.Prelude.{ℤ, Result, Ok, Err, All}
 use Rattle.reader_answers.specs.Answers.{◌>>=◌}
 use Rattle.element_table.specs.Elements.{TableEntries}
 use Rattle.written_items.specs.declared.item.Item.{Item}
@@ -15,9 +14,7 @@ use Rattle.reaching_layer.specs.declared.fault.CoverFault.TheVariants.{TooMany}
 use Rattle.cover_certificate.specs.FormulaCovers.{CoverEntries, cover_of, cover_unless_too_many, member_numbers}
 use Rattle.isoform.specs.Answer.{cover_query}
 use Rattle.isoform.specs.Claims.{HoldsTrue}
-use Rattle.isoform.specs.Queries.{CoverQuery}
 use Rattle.isoform.specs.Refusals.{or_fault_as}
-use Rattle.isoform.specs.declared.input_fault.InputFault.{InputFault}
 use Rattle.isoform.specs.declared.input_fault.InputFault.TheVariants.{Layer}
 
 given_cover : (many : Bool) (threshold : ℕ) (cover given : CoverEntries) →

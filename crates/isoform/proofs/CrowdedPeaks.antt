@@ -1,11 +1,10 @@
 -- The first peak that has too many formulas.
-use Rattle.std.proofs.Common.{◌≡◌, ℕ, zero, suc, ◌+◌, ◌<◌, Bool, true, false, cond, List, [], ◌∷◌, length, get_or, refl, sym, ap, ◌∙◌, arith}
+use Rattle.std.proofs.Common.{◌≡◌, ℕ, zero, suc, ◌+◌, ◌<◌, Bool, true, false, cond, List, [], ◌∷◌, length, get_or, refl, ap, ◌∙◌, arith}
 use Rattle.std.specs.Prelude.{Option, Some, None, option_map, Ok, Err, find, is_some, nat_lt}
 use Rattle.std.specs.List.{enumerate_from}
 use Rattle.reader_answers.specs.Answers.{unless_fault}
 use Rattle.isoform.specs.PageFormulas.{counts_after, within_limit}
 use Rattle.isoform.specs.Queries.{FormulaQuery}
-use Rattle.isoform.specs.declared.input_fault.InputFault.{InputFault}
 use Rattle.isoform.specs.declared.input_fault.InputFault.TheVariants.{CandidateLimit}
 
 -- whether a peak has too many
@@ -51,9 +50,3 @@ crowded_none query none each =
     (find (λ (p : ℕ × ℕ). is_crowded query p.1) (enumerate_from 1 query.mzs))) (Ok query))) none
     ∙ ap (λ (o : Option (ℕ × ℕ)). unless_fault (option_map (λ (p : ℕ × ℕ). CandidateLimit p.0) o) (Ok query))
     (find_none (is_crowded query) 1 query.mzs each)
-
--- with a limit there are never too many
-pub limited : (query : FormulaQuery) → is_some query.limit ≡ true → within_limit query ≡ Ok query
-limited query some =
-    ap (λ b. cond b (Ok query) (unless_fault (option_map (λ (p : ℕ × ℕ). CandidateLimit p.0)
-    (find (λ (p : ℕ × ℕ). is_crowded query p.1) (enumerate_from 1 query.mzs))) (Ok query))) some

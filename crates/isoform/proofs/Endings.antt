@@ -1,9 +1,8 @@
 -- What a run shows at the outside, ending by ending.
-use Rattle.std.proofs.Common.{◌≡◌, ℕ, ◌≤◌, List, [], ◌∷◌, ◌++◌, length, take, ◌+◌, refl, sym, ap, ◌∙◌, subst, arith, inl, inr}
-use Rattle.std.specs.Prelude.{Bool, true, false, Option, Some, None, Result, Ok, Err, IsOkAnd, IfSome, MatchBool, ⊤}
+use Rattle.std.proofs.Common.{◌≡◌, ℕ, List, [], take, ◌+◌, refl, sym, ap, subst, arith, inl, inr}
+use Rattle.std.specs.Prelude.{Option, Some, None, Result, Ok, Err, MatchBool, ⊤}
 use Rattle.std.proofs.lemmas.List.{append-nil}
 use Rattle.std.specs.Io.KnownBytes.{append_known}
-use Rattle.outside_ports.specs.Faults.{Rose}
 use Rattle.outside_ports.specs.Files.{Files}
 use Rattle.command_words.specs.WordReading.{request_of}
 use Rattle.command_words.specs.WordReading as words
@@ -15,10 +14,10 @@ use Rattle.isoform.specs.Asked.{Asked, Names, asked_as, result_as}
 use Rattle.isoform.specs.Claims.{Holds}
 use Rattle.isoform.specs.Refusals.{of_words_fault}
 use Rattle.isoform.specs.Reports.{cover_report, formulas_report}
-use Rattle.isoform.specs.Outside.{AnswersAs, AsksNames, Ending, EndsAs, IsPart, IsPut, IsTold, NoWordsFault, OnlyReads, Outside, Puts, Reads, ReceivesAll, ReceivesSome, ReceivesSomeOf, RefusesWords, Shelved, Shows, outside}
+use Rattle.isoform.specs.Outside.{AnswersAs, Ending, EndsAs, IsPut, IsTold, NoWordsFault, OnlyReads, Outside, Puts, Reads, ReceivesSome, ReceivesSomeOf, RefusesWords, Shows, outside}
 use Rattle.isoform.specs.declared.refusal.Refusal.{Refusal}
 use Rattle.isoform.specs.declared.refusal.Refusal.TheVariants.{Words, Input, ReadFault, WriteFault, Memory}
-use Rattle.isoform.proofs.PartLaws.{all_names, if_some_map}
+use Rattle.isoform.proofs.PartLaws.{all_names}
 
 -- each outcome has a report
 some_report : (outcome : Outcome) → (report : List ℕ) × IsReport outcome report

@@ -1,5 +1,5 @@
 pub mod PartLaws
-pub mod GivenFaults
+pub mod GivenSteps
 pub mod CrowdedPeaks
 pub mod PageLines
 pub mod PeakLists

@@ -1,5 +1,5 @@
 -- Parts of a run, one after another.
-use Rattle.std.proofs.Common.{◌≡◌, ℕ, ◌+◌, ◌≤◌, ◌<◌, min, List, [], ◌∷◌, ◌++◌, length, take, refl, sym, ap, ◌∙◌, subst, arith, length-append, inl, inr}
+use Rattle.std.proofs.Common.{◌≡◌, ℕ, ◌+◌, ◌<◌, min, List, [], ◌++◌, length, take, refl, sym, ap, ◌∙◌, subst, arith, length-append, inl, inr}
 use Rattle.std.specs.Prelude.{Option, Some, None, Result, Ok, Err, IfSome, slice_get, ◌⊎◌}
 use Rattle.std.proofs.lemmas.List.{take_all, append-nil, append_assoc, take-append-le, get_or_append_left, get_or-append-add}
 use Rattle.std.proofs.lemmas.Option.{slice_get_within, slice_get-get_or, get_or_from_slice_get}
@@ -7,7 +7,7 @@ use Rattle.std.proofs.Math.Seq.{take-append-add}
 use Rattle.std.proofs.lemmas.Grind.{common_steps}
 use Rattle.outside_ports.specs.Files.{Files}
 use Rattle.isoform.specs.Asked.{Asked, Names, asks_none, asks_next, ◌and_then◌}
-use Rattle.isoform.specs.Outside.{AnswersAs, AsksNames, CountsReads, IsPart, OnlyReads, Reads, Shelved}
+use Rattle.isoform.specs.Outside.{AnswersAs, AsksNames, CountsReads, IsPart, OnlyReads, Shelved}
 use Rattle.isoform.specs.Refusals.{GivesInput, or_refusal}
 use Rattle.isoform.specs.declared.input_fault.InputFault.{InputFault}
 use Rattle.isoform.specs.declared.refusal.Refusal.{Refusal}

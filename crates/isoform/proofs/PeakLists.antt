@@ -1,6 +1,6 @@
 -- The formulas of a peak are exactly those that it has, in order, and a page of them is where it should be.
-use Rattle.std.proofs.Common.{◌≡◌, ◌≢◌, ℕ, zero, suc, ◌+◌, ◌<◌, ◌≤◌, min, Bool, true, false, cond, List, [], ◌∷◌, ◌++◌, get_or, length, take, drop, map, refl, sym, ap, ◌∙◌, subst, ◌↔◌, arith}
-use Rattle.std.specs.Prelude.{ℤ, Option, Some, None, MatchOption, AllPairs, Contains, filter, is_some, not, position, option_map, IsTrue, ◌&&◌}
+use Rattle.std.proofs.Common.{◌≡◌, ◌≢◌, ℕ, zero, suc, ◌+◌, Bool, true, false, cond, List, [], ◌∷◌, ◌++◌, get_or, length, take, drop, refl, sym, ap, ◌∙◌, subst, ◌↔◌, arith}
+use Rattle.std.specs.Prelude.{Option, Some, None, AllPairs, Contains, filter, is_some, not, position, option_map, IsTrue, ◌&&◌}
 use Rattle.std.specs.List.{All, AllByRecursion}
 use Rattle.std.proofs.lemmas.Bool.{and_parts, false≢true}
 use Rattle.std.proofs.lemmas.List.{get_or_default, append-nil, append_assoc, take-append-drop}
@@ -28,7 +28,7 @@ use Rattle.golden_rules.proofs.MetRules.{IsVerdict-fails, IsVerdict-pass}
 use Rattle.golden_rules.proofs.OneVerdict.{one-verdict}
 use Rattle.candidates.specs.Grounds.{GroundValue}
 use Rattle.candidates.specs.PeakFormulas.{candidate_if, counts_of, formulas_of_peak, is_candidate, is_ion_within, is_pass, limits_of, meets_rules}
-use Rattle.isoform.specs.Claims.{AreAllOfPeak, BeginsBehind, EndsWithin, IsOfPeak, IsPageOf, PrintsPeak}
+use Rattle.isoform.specs.Claims.{AreAllOfPeak, EndsWithin, IsOfPeak, IsPageOf, PrintsPeak}
 use Rattle.isoform.specs.PageFormulas.{first_of, token_counts}
 use Rattle.isoform.specs.Queries.{FormulaQuery}
 

@@ -1,21 +1,21 @@
 -- The masses of the members of a cover can be printed, also with the electrons taken off.
-use Rattle.std.proofs.Common.{SFits, ◌≡◌, ℕ, ◌+◌, ◌*◌, ◌^◌, ◌<◌, ◌≤◌, Bool, true, false, cond, List, [], ◌∷◌, ◌++◌, length, take, get_or, map, refl, sym, ap, ◌∙◌, subst, arith}
-use Rattle.std.specs.Prelude.{ℤ, pos, ◌+ℤ◌, Option, Some, None, All, find, filter, nat_lt, sum, unsigned_abs}
-use Rattle.std.specs.List.{AllByRecursion, concat, flat_map, zip}
+use Rattle.std.proofs.Common.{SFits, ◌≡◌, ℕ, ◌*◌, ◌≤◌, Bool, true, false, cond, List, [], ◌∷◌, ◌++◌, map, refl, sym, subst, arith}
+use Rattle.std.specs.Prelude.{ℤ, Option, Some, None, All, filter, nat_lt, sum}
+use Rattle.std.specs.List.{AllByRecursion, flat_map, zip}
 use Rattle.std.specs.Str.{bytes_eq}
 use Rattle.std.specs.Int.{w128}
 use Rattle.std.proofs.lemmas.Int.{ints}
-use Rattle.std.proofs.lemmas.List.Elements.{All-from_recursion, All-map, All-take, recursion_from_All}
+use Rattle.std.proofs.lemmas.List.Elements.{All-from_recursion, All-take, recursion_from_All}
 use Rattle.std.proofs.lemmas.List.Sums.{sum_by-cons}
 use Rattle.std.proofs.Math.Nat.{mul-le-mul_left}
 use Rattle.element_table.specs.declared.element.Isotope.{Isotope}
 use Rattle.element_table.specs.Elements.{ElementEntry, IsElement, IsIsotope, IsTable, TableEntries, element_of}
 use Rattle.written_items.specs.declared.item.Item.{Item}
 use Rattle.formula_text.specs.Formulas.{IsFormula, atoms_of}
-use Rattle.formula_text.specs.Masses.{item_mass, mass_of}
+use Rattle.formula_text.specs.Masses.{item_mass}
 use Rattle.formula_text.proofs.CountsInOrder.{atoms_of-cons}
 use Rattle.adducts.proofs.MassBounds.{few-weights, item-light}
-use Rattle.isotopologue_text.specs.Isotopologues.{IsIsotopologueOf, counts_mass, formula_isotopes, isotopes_if, isotopes_of, isotopes_that_occur, isotopologue_mass_of, labelled_items, plain_items}
+use Rattle.isotopologue_text.specs.Isotopologues.{IsIsotopologueOf, counts_mass, formula_isotopes, isotopes_if, isotopes_of, isotopologue_mass_of, labelled_items, plain_items}
 use Rattle.isotopologue_text.proofs.CountsLemmas.{counts-few}
 use Rattle.isotopologue_text.proofs.Found.{found}
 use Rattle.isotopologue_sets.specs.Covers.{Member, cover_numbers}

@@ -1,5 +1,5 @@
 -- What a run does at the outside: how it ends, and what the shelf, the output and the notes show of it.
-use Rattle.std.specs.Prelude.{◌≡◌, ℕ, ◌+◌, ◌<◌, ◌≤◌, ◌++◌, ◌⊎◌, List, [], ◌∷◌, length, take, slice_get, Option, Some, IfSome, Result, Ok, Err, IsOkAnd, ⊤}
+use Rattle.std.specs.Prelude.{◌≡◌, ℕ, ◌+◌, ◌≤◌, ◌++◌, ◌⊎◌, List, [], ◌∷◌, take, slice_get, Option, Some, IfSome, Result, Ok, Err, IsOkAnd, ⊤}
 use Rattle.std.specs.Io.KnownBytes.{append_known}
 use Rattle.outside_ports.specs.Faults.{Rose}
 use Rattle.outside_ports.specs.Files.{Files}

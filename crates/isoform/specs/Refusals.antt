@@ -1,5 +1,5 @@
 -- Faults of what was given, as refusals of the program. Want of memory is a refusal of its own.
-use Rattle.std.specs.Prelude.{◌≡◌, List, ℕ, Result, Ok, Err, ⊤}
+use Rattle.std.specs.Prelude.{◌≡◌, Result, Ok, Err, ⊤}
 use Rattle.element_table.specs.declared.fault.TableFault.{TableFault}
 use Rattle.element_table.specs.declared.fault.TableFault.TheVariants as table
 use Rattle.element_table.specs.declared.tracer_fault.TracerFault.{TracerFault}
@@ -19,7 +19,7 @@ use Rattle.command_words.specs.declared.fault.WordsFault.TheVariants as words
 use Rattle.isoform.specs.declared.input_fault.InputFault.{InputFault}
 use Rattle.isoform.specs.declared.input_fault.InputFault.TheVariants.{Table, Tracer, Peaks, Alphabet, Adduct, Rules, After, Formula}
 use Rattle.isoform.specs.declared.refusal.Refusal.{Refusal}
-use Rattle.isoform.specs.declared.refusal.Refusal.TheVariants.{Words, Input, ReadFault, WriteFault, Memory}
+use Rattle.isoform.specs.declared.refusal.Refusal.TheVariants.{Words, Input, Memory}
 
 -- what the program answers to a fault of its words, of a file or of a text: that fault, or want of memory
 abbrev pub of_words_fault : WordsFault → Refusal

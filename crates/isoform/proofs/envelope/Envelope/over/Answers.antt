@@ -1,4 +1,4 @@
-use Rattle.std.proofs.Common.{SFits, ℕ, List, subst}
+use Rattle.std.proofs.Common.{SFits, subst}
 use Rattle.std.specs.Prelude.{ℤ, Result, Err}
 use Rattle.std.proofs.lemmas.Result.{err_from_is_err_and}
 use Rattle.reader_answers.specs.Answers.{◌>>=◌}
@@ -13,7 +13,7 @@ use Rattle.isoform.specs.declared.input_fault.InputFault.{InputFault}
 use Rattle.std.specs.Int.{w128}
 use Rattle.std.proofs.lemmas.Int.{to_z-of_z}
 use Rattle.isoform.proofs.PrintedMasses.{fits_small}
-use Rattle.isoform.proofs.GivenFaults.{gives_next, gives_stop}
+use Rattle.isoform.proofs.GivenSteps.{gives_next, gives_stop}
 use Rattle.isoform.proofs.envelope.Envelope.over.Goals as goal
 
 -- what follows the adduct

@@ -1,5 +1,5 @@
-use Rattle.std.proofs.Common.{SFits, ◌≡◌, ℕ, List, ◌++◌, take, ap, sym, ◌∙◌, subst, refl}
-use Rattle.std.specs.Prelude.{ℤ, All, Ok, Err}
+use Rattle.std.proofs.Common.{SFits, ◌≡◌, ℕ, List, ◌++◌, ap, sym, ◌∙◌, subst, refl}
+use Rattle.std.specs.Prelude.{ℤ, All, Err}
 use Rattle.std.proofs.lemmas.Result.{err_from_is_err_and}
 use Rattle.std.specs.List.{flat_map}
 use Rattle.cover_certificate.specs.FormulaCovers.{CoverEntries, MemberEntry}
