@@ -35,7 +35,10 @@ fn push_head_lines(report: &mut Vec<u8>, cover: &Cover) -> Result<(), AllocError
 {
     push_line(
         report,
-        &[Word::Text(b"envelope"), Word::Formula(cover.formula().items())],
+        &[
+            Word::Text(b"envelope"),
+            Word::Formula(cover.formula().items()),
+        ],
     )?;
     push_line(
         report,
