@@ -7,4 +7,5 @@ pub mod CountsInRow
 pub mod Claims
 pub mod MemberRows
 pub mod Surroundings
+pub mod FaultNames
 pub mod ClaimMeaning
