@@ -45,7 +45,7 @@ found-holds {X} P p (y ∷ xs) all x found =
     ]) found
 
 module _ (es : List Element) (members : List (List (List ℕ))) (all : All (IsIsotopologue es) members) where
-  exits-are : All (λ (exit : ℕ × List (List ℕ)). (exit.0 ≤ length members) × IsIsotopologue es exit.1) (exits members)
+  pub exits-are : All (λ (exit : ℕ × List (List ℕ)). (exit.0 ≤ length members) × IsIsotopologue es exit.1) (exits members)
   exits-are =
       All-flat_map (λ (exit : ℕ × List (List ℕ)). (exit.0 ≤ length members) × IsIsotopologue es exit.1)
       (λ place. map (λ i. (place, i)) (neighbours_of (member_at members place))) (range_with_len 0 (length members))

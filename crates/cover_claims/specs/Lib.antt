@@ -9,3 +9,4 @@ pub mod MemberRows
 pub mod Surroundings
 pub mod FaultNames
 pub mod ClaimMeaning
+pub mod CoverClaims
