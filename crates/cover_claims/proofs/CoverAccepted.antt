@@ -30,7 +30,7 @@ use Rattle.cover_claims.proofs.ModeRow.{modes-IsIsotopologue}
 use Rattle.cover_claims.proofs.OpenNeighbours.{exits-are}
 
 -- where all fail, nothing is found
-none-found : {X : Type 0} (p : X → Bool) (xs : List X) → All (λ x. p x ≡ false) xs → find p xs ≡ None
+pub none-found : {X : Type 0} (p : X → Bool) (xs : List X) → All (λ x. p x ≡ false) xs → find p xs ≡ None
 none-found p [] all = refl
 none-found p (x ∷ xs) all =
     rw (All-head (λ y. p y ≡ false) x xs all) (none-found p xs (All-tail (λ y. p y ≡ false) x xs all))
