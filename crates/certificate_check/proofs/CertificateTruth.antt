@@ -1,5 +1,5 @@
 -- What an accepted certificate claims is true.
-use Rattle.std.proofs.Common.{◌≡◌, ℕ, Bool, true, false, cond, eqb, ltb, List, [], length, Some, None, refl, sym, ◌∙◌, ap, All}
+use Rattle.std.proofs.Common.{◌≡◌, ℕ, Bool, true, false, cond, eqb, ltb, length, Some, None, refl, sym, ◌∙◌, ap, All}
 use Rattle.std.specs.Prelude.{Option, ◌||◌}
 use Rattle.std.proofs.lemmas.Bool.{false≢true}
 use Rattle.isotopologue_sets.specs.Layers.{AreElements, max_members}

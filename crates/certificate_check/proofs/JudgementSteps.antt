@@ -1,15 +1,12 @@
 -- The tests of a certificate, one after another.
-use Rattle.std.proofs.Common.{◌≡◌, ℕ, ◌+◌, ◌<◌, ◌≤◌, Bool, true, false, cond, eqb, ltb, length, Some, None, refl, sym, ◌∙◌, ap, arith, ⊎_elim, inl, inr}
-use Rattle.std.specs.Prelude.{◌⊎◌, ◌||◌}
+use Rattle.std.proofs.Common.{◌≡◌, ◌<◌, ◌≤◌, true, false, eqb, ltb, length, refl}
 use Rattle.std.proofs.lemmas.Bool.{eq-eqb, ne_eqb, lt-ltb, le-ltb}
 use Rattle.isotopologue_sets.specs.Layers.{max_members}
 use Rattle.isotopologue_sets.specs.Coverage.{max_coverage}
 use Rattle.element_table.specs.Elements.{TableEntries}
 use Rattle.certificate_text.specs.Certificates.{CertificateEntries}
-use Rattle.cover_claims.specs.Claims.{claim_fault}
-use Rattle.certificate_check.specs.declared.judgement.Judgement.{Judgement}
-use Rattle.certificate_check.specs.declared.judgement.Judgement.TheVariants.{CoverageRange, TooManyMembers, NotOfFormula}
-use Rattle.certificate_check.specs.Judgements.{line_of, first_unnamed, claimed_by, numbers_of, judgement_of, judgement_of_lines, judgement}
+use Rattle.certificate_check.specs.declared.judgement.Judgement.TheVariants.{CoverageRange, TooManyMembers}
+use Rattle.certificate_check.specs.Judgements.{first_unnamed, judgement_of_lines, judgement}
 
 module _ (table : TableEntries) (certificate : CertificateEntries) where
   pub coverage-zero : certificate.coverage ≡ 0 → judgement table certificate ≡ CoverageRange certificate.coverage

@@ -1,3 +1,4 @@
 pub mod LineMembers
 pub mod CertificateTruth
 pub mod JudgementSteps
+pub mod CoverAccepted

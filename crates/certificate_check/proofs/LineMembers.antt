@@ -1,11 +1,10 @@
 -- The isotopologues of a certificate's lines, each of which has the text of one.
-use Rattle.std.proofs.Common.{◌≡◌, ℕ, suc, ◌<◌, Bool, true, false, cond, List, [], ◌∷◌, ◌++◌, map, length, get_or, Some, None, refl, sym, ◌∙◌, ap, arith, All, append-nil, length-append, drop, ◌*◌, ◌+◌, subst}
-use Rattle.std.specs.Prelude.{Option, find, flat_map, is_none, unwrap_or}
+use Rattle.std.proofs.Common.{◌≡◌, ℕ, ◌<◌, Bool, true, false, cond, List, [], ◌∷◌, ◌++◌, map, length, get_or, Some, None, refl, sym, ◌∙◌, ap, arith, All, append-nil, length-append, drop, ◌*◌, subst}
+use Rattle.std.specs.Prelude.{Option, flat_map, is_none, unwrap_or}
 use Rattle.std.specs.List.{concat, range_with_len}
-use Rattle.std.specs.Option.{option_map}
 use Rattle.std.proofs.Math.Seq.{drop-append_seam}
 use Rattle.std.proofs.lemmas.Bool.{false≢true}
-use Rattle.std.proofs.lemmas.List.{length-map, get_or-map, get_or_default}
+use Rattle.std.proofs.lemmas.List.{get_or-map, get_or_default}
 use Rattle.std.proofs.lemmas.List.FromFn.{length-range_with_len, get_or-range_with_len}
 use Rattle.std.proofs.lemmas.List.Elements.{All-map, All-head, All-tail}
 use Rattle.element_table.specs.Elements.{TableEntries}

@@ -1,12 +1,11 @@
 -- What a certificate claims. Coverages are in units of 10^-18.
-use Rattle.std.specs.Prelude.{◌≡◌, ℕ, List, length, map, filter, All}
-use Rattle.std.specs.List.{concat}
+use Rattle.std.specs.Prelude.{◌≡◌, ℕ, List, length, All}
 use Rattle.element_table.specs.Elements.{TableEntries}
 use Rattle.isotopologue_sets.specs.Coverage.{Reaches, Bound}
 use Rattle.isotopologue_text.specs.Isotopologues.{formula_elements, HasText}
-use Rattle.certificate_text.specs.Certificates.{CertificateEntries, CertLineEntry}
+use Rattle.certificate_text.specs.Certificates.{CertificateEntries}
 use Rattle.cover_claims.specs.Claims.{marked_in}
-use Rattle.certificate_check.specs.Judgements.{claimed_by, member_of_line}
+use Rattle.certificate_check.specs.Judgements.{claimed_by}
 
 -- Each line has the text of an isotopologue of the formula. The marked ones have the coverage in exact weights, and are as
 -- many as the size says. No set of isotopologues with fewer members than the bound says has the coverage.

@@ -1,6 +1,6 @@
 -- What is judged of a certificate: the first test that it fails. Coverages and totals are in units of 10^-18; lines are
 -- numbered from 1, and the first member stands on line 7.
-use Rattle.std.specs.Prelude.{ℕ, ◌+◌, ◌*◌, ◌^◌, Bool, ◌||◌, ◌==◌, nat_lt, List, [], length, map, find, slice_index_or, is_none, unwrap_or, Option, Some, None, if◌then◌else◌}
+use Rattle.std.specs.Prelude.{ℕ, ◌+◌, Bool, ◌||◌, ◌==◌, nat_lt, List, [], length, map, find, slice_index_or, is_none, unwrap_or, Option, Some, None, if◌then◌else◌}
 use Rattle.std.specs.List.{range_with_len}
 use Rattle.isotopologue_sets.specs.Layers.{max_members}
 use Rattle.isotopologue_sets.specs.Coverage.{max_coverage}

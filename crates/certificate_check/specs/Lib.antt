@@ -5,3 +5,4 @@ pub use Rattle.certificate_text.specs.Certificates
 pub use Rattle.cover_claims.specs.Claims
 pub mod Judgements
 pub mod CertificateMeaning
+pub mod CoverCertificates

@@ -2,7 +2,7 @@
 
 ghost use Rattle.std.specs.Prelude.{◌≡◌, ◌≤◌, IfOk, length};
 ghost use Rattle.formula_text.specs.Masses.{HasItems};
-ghost use Rattle.cover_claims.proofs.OpenNeighbours.{IfNames};
+ghost use Rattle.cover_claims.specs.FaultNames.{IfNames};
 ghost use Rattle.isotopologue_text.specs.Isotopologues.{formula_elements};
 ghost use Rattle.certificate_check.specs.declared.judgement.Judgement.TheVariants.{Accepted};
 ghost use Rattle.certificate_check.specs.Judgements.{judgement, judgement_of};

@@ -1,22 +1,22 @@
 -- A claim that fails no test is true.
-use Rattle.std.proofs.Common.{◌≡◌, ℕ, suc, ◌+◌, ◌-◌, ◌<◌, ◌≤◌, Bool, true, false, cond, not, eqb, ltb, leb, List, [], ◌∷◌, map, length, get_or, Some, None, refl, sym, ◌∙◌, ap, arith, All, ⊎_elim, inl, inr}
-use Rattle.std.specs.Prelude.{◌⊎◌, ◌&&◌, Contains, Option, flat_map, filter}
+use Rattle.std.proofs.Common.{◌≡◌, ℕ, ◌-◌, ◌<◌, ◌≤◌, Bool, true, false, cond, ltb, leb, List, [], ◌∷◌, map, length, get_or, Some, None, refl, ◌∙◌, arith, All, ⊎_elim, inl, inr}
+use Rattle.std.specs.Prelude.{◌⊎◌, ◌&&◌, Contains, Option, filter}
 use Rattle.std.specs.List.{range_with_len}
 use Rattle.std.specs.Option.{option_map}
-use Rattle.std.proofs.lemmas.Bool.{false≢true, cases_Bool, cases_lt, eqb-true, leb-true, leb-false, ltb-false, lt-ltb, le-leb}
+use Rattle.std.proofs.lemmas.Bool.{cases_lt, eqb-true, leb-true, leb-false, lt-ltb}
 use Rattle.std.proofs.lemmas.List.{length-map, get_or-map, get_or_default}
 use Rattle.std.proofs.lemmas.List.FromFn.{length-range_with_len, get_or-range_with_len}
 use Rattle.std.proofs.lemmas.List.Elements.{All-contains, All-filter, All-map, Contains-get_or}
 use Rattle.multinomial_bounds.specs.Isotopologue.{Element, IsIsotopologue}
 use Rattle.multinomial_bounds.proofs.CompositionLemmas.{Contains-map, Contains-flat_map}
 use Rattle.isotopologue_sets.specs.Layers.{AreElements, hi_of, lo_total, mode_of_each}
-use Rattle.isotopologue_sets.specs.Coverage.{IsSet, Reaches, Bound}
+use Rattle.isotopologue_sets.specs.Coverage.{IsSet, Bound}
 use Rattle.isotopologue_neighbours.specs.Moves.{neighbours_of}
 use Rattle.isotopologue_neighbours.specs.Closed.{IsClosedAbove, greatest_total}
 use Rattle.isotopologue_neighbours.proofs.ClosedBounds.{closed-Bound, reaches-by_lo}
 use Rattle.cover_claims.specs.declared.fault.ClaimFault.{ClaimFault}
 use Rattle.cover_claims.specs.declared.claim.ClaimNumbers.{ClaimNumbers}
-use Rattle.cover_claims.specs.Claims.{Claimed, ClaimedMember, isotopologues_in, marked_in, member_at, is_member, exits, is_left_out, first_left_out, first_misplaced, first_fault, claim_fault}
+use Rattle.cover_claims.specs.Claims.{Claimed, isotopologues_in, marked_in, member_at, is_member, exits, is_left_out, first_left_out, first_fault, claim_fault}
 use Rattle.cover_claims.specs.ClaimMeaning.{IsTrueClaim}
 use Rattle.cover_claims.proofs.FindLemmas.{find-none, is_member-Decides, some≢none}
 use Rattle.cover_claims.proofs.MemberOrder.{marked-distinct, not-false}

@@ -1,5 +1,5 @@
 -- The first neighbour that was left out, by the members.
-use Rattle.std.proofs.Common.{◌≡◌, ℕ, ◌+◌, ◌-◌, ◌<◌, ◌≤◌, Bool, true, false, cond, List, [], ◌∷◌, ◌++◌, map, length, Some, None, refl, sym, ◌∙◌, ap, arith}
+use Rattle.std.proofs.Common.{◌≡◌, ℕ, ◌+◌, ◌-◌, ◌<◌, ◌≤◌, Bool, true, false, List, [], ◌∷◌, map, length, Some, None, refl, sym, ◌∙◌, ap, arith}
 use Rattle.std.specs.Prelude.{find, flat_map, Option}
 use Rattle.std.specs.List.{concat, range_with_len}
 use Rattle.std.specs.Option.{option_map}
@@ -8,7 +8,7 @@ use Rattle.isotopologue_sets.specs.Layers.{hi_of}
 use Rattle.isotopologue_neighbours.specs.Moves.{neighbours_of}
 use Rattle.cover_claims.specs.declared.fault.ClaimFault.{ClaimFault}
 use Rattle.cover_claims.specs.declared.fault.ClaimFault.TheVariants.{OpenBoundary}
-use Rattle.cover_claims.specs.Claims.{member_at, is_left_out, exits, first_left_out, boundary_fault}
+use Rattle.cover_claims.specs.Claims.{member_at, is_left_out, first_left_out, boundary_fault}
 use Rattle.cover_claims.specs.Surroundings.{as_row}
 use Rattle.cover_claims.proofs.FirstFound.{seen-append-none, seen-append-some, places-step, places-end}
 

@@ -1,5 +1,5 @@
 -- What is found first among parts of a list.
-use Rattle.std.proofs.Common.{◌≡◌, ◌≢◌, ℕ, suc, ◌+◌, ◌-◌, ◌<◌, ◌≤◌, Bool, true, false, cond, not, eqb, ltb, List, [], ◌∷◌, ◌++◌, map, length, take, drop, get_or, Some, None, refl, sym, ◌∙◌, ap, arith}
+use Rattle.std.proofs.Common.{◌≡◌, ◌≢◌, ℕ, suc, ◌+◌, ◌-◌, ◌<◌, ◌≤◌, Bool, true, false, cond, not, eqb, ltb, List, [], ◌∷◌, ◌++◌, map, length, get_or, Some, None, refl, sym, ◌∙◌, ap, arith}
 use Rattle.std.specs.Prelude.{find, filter, flat_map, Option}
 use Rattle.std.specs.List.{concat, range_with_len}
 use Rattle.std.specs.Option.{option_map}
@@ -9,7 +9,7 @@ use Rattle.multinomial_bounds.specs.Isotopologue.{Element}
 use Rattle.isotopologue_sets.specs.Layers.{hi_of}
 use Rattle.isotopologue_neighbours.specs.Moves.{moved, takers, counts_moved}
 use Rattle.cover_claims.specs.Claims.{is_left_out}
-use Rattle.cover_claims.specs.Surroundings.{with_counts, as_row, left_out_among}
+use Rattle.cover_claims.specs.Surroundings.{with_counts, left_out_among}
 use Rattle.cover_claims.proofs.FindLemmas.{some≢none}
 
 find-append-none : {X : Type 0} (p : X → Bool) (xs ys : List X) → find p xs ≡ None → find p (xs ++ ys) ≡ find p ys

@@ -16,3 +16,4 @@ pub mod MemberTotals
 pub mod ModeRow
 pub mod ClaimSteps
 pub mod OpenNeighbours
+pub mod CoverAccepted

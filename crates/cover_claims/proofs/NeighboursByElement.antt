@@ -1,9 +1,9 @@
 -- The neighbours of an isotopologue, one element after another, and its counts by an element.
-use Rattle.std.proofs.Common.{◌≡◌, ℕ, suc, ◌+◌, ◌-◌, ◌<◌, ◌≤◌, List, [], ◌∷◌, ◌++◌, map, length, take, drop, get_or, sum, refl, sym, ◌∙◌, ap, arith, All, Some, None, append_assoc, append-nil, drop-cons, add-one, length-append, length-drop}
+use Rattle.std.proofs.Common.{◌≡◌, ℕ, ◌+◌, ◌<◌, ◌≤◌, List, [], ◌∷◌, ◌++◌, map, length, take, drop, get_or, refl, sym, ◌∙◌, ap, arith, All, Some, None, append_assoc, append-nil, drop-cons, add-one, length-append, length-drop}
 use Rattle.std.specs.Prelude.{find, Option}
 use Rattle.std.specs.List.{concat}
 use Rattle.std.proofs.Math.Seq.{take-append_seam, drop-append_seam}
-use Rattle.std.proofs.lemmas.List.{map-append, map-id, take_more, drop_all, drop-drop, take-append-drop, take_all}
+use Rattle.std.proofs.lemmas.List.{map-append, map-id, take_more, drop_all, take-append-drop, take_all}
 use Rattle.std.proofs.lemmas.Simd.{map-map}
 use Rattle.std.proofs.lemmas.List.Folds.{concat-append}
 use Rattle.multinomial_bounds.specs.Isotopologue.{Element, IsIsotopologue}

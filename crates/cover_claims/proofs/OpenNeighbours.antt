@@ -1,9 +1,8 @@
 -- The isotopologue that an open boundary names is one of the elements.
-use Rattle.std.proofs.Common.{◌≡◌, ℕ, Bool, true, false, cond, List, [], ◌∷◌, Some, None, refl, sym, ◌∙◌, ap, arith, All, length, map, subst, eqb, ltb, leb, ◌-◌, ◌+◌, ◌≤◌, zero, suc}
+use Rattle.std.proofs.Common.{◌≡◌, ℕ, Bool, true, false, cond, List, [], ◌∷◌, Some, None, refl, sym, ap, arith, All, length, map, subst, eqb, ltb, leb, ◌-◌, ◌+◌, ◌≤◌, zero, suc}
 use Rattle.std.specs.Prelude.{Option, ◌&&◌, find, unwrap_or}
 use Rattle.std.specs.List.{concat, range_with_len}
 use Rattle.std.specs.Option.{option_map}
-use Rattle.std.proofs.lemmas.Bool.{false≢true}
 use Rattle.std.proofs.lemmas.List.{length-map}
 use Rattle.std.proofs.lemmas.List.Elements.{All-head, All-tail, All-map, All-weaker, All-nil, All-cons}
 use Rattle.multinomial_bounds.specs.Isotopologue.{Element, IsIsotopologue}
@@ -16,25 +15,8 @@ use Rattle.cover_claims.specs.declared.claim.ClaimNumbers.{ClaimNumbers}
 use Rattle.cover_claims.specs.declared.fault.ClaimFault.{ClaimFault}
 use Rattle.cover_claims.specs.declared.fault.ClaimFault.TheVariants as fault
 use Rattle.cover_claims.specs.Claims.{Claimed, isotopologues_in, marked_in, member_at, is_member, is_left_out, exits, first_left_out, is_misplaced, first_misplaced, order_fault, mode_fault, boundary_fault, size_fault, cover_fault, bound_fault, first_fault, claim_fault}
+use Rattle.cover_claims.specs.FaultNames.{NamesIsotopologue, IfNames}
 use Rattle.cover_claims.proofs.FindLemmas.{some≢none}
-
--- an isotopologue whose counts in a row these are
-abbrev pub IsRow : List Element → List ℕ → Type 0
-IsRow es row = (i : List (List ℕ)) × IsIsotopologue es i × (concat i ≡ row)
-
--- what holds of a fault of so many members: that the place that it may name is not above their number, and that the
--- neighbour is an isotopologue
-abbrev pub NamesIsotopologue : List Element → ℕ → ClaimFault → Type 0
-NamesIsotopologue es n (fault.OutOfOrder place) = place ≤ n
-NamesIsotopologue es n fault.ModeAbsent = Unit {0}
-NamesIsotopologue es n (fault.OpenBoundary place row hi) = (place ≤ n) × IsRow es row
-NamesIsotopologue es n (fault.SizeDiffers found) = Unit {0}
-NamesIsotopologue es n (fault.CoverShort total) = Unit {0}
-NamesIsotopologue es n (fault.BoundTooHigh total) = Unit {0}
-
-abbrev pub IfNames : List Element → ℕ → Option ClaimFault → Type 0
-IfNames es n None = Unit {0}
-IfNames es n (Some f) = NamesIsotopologue es n f
 
 range-below : (a n b : ℕ) → a + n ≤ b → All (λ p. p ≤ b) (range_with_len a n)
 range-below a zero b within = All-nil (λ p. p ≤ b)
@@ -63,7 +45,7 @@ found-holds {X} P p (y ∷ xs) all x found =
     ]) found
 
 module _ (es : List Element) (members : List (List (List ℕ))) (all : All (IsIsotopologue es) members) where
-  exits-are : All (λ (exit : ℕ × List (List ℕ)). (exit.0 ≤ length members) × IsIsotopologue es exit.1) (exits members)
+  pub exits-are : All (λ (exit : ℕ × List (List ℕ)). (exit.0 ≤ length members) × IsIsotopologue es exit.1) (exits members)
   exits-are =
       All-flat_map (λ (exit : ℕ × List (List ℕ)). (exit.0 ≤ length members) × IsIsotopologue es exit.1)
       (λ place. map (λ i. (place, i)) (neighbours_of (member_at members place))) (range_with_len 0 (length members))

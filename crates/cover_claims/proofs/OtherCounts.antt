@@ -1,6 +1,6 @@
 -- A member with other counts of one element, as many of as many isotopes: its counts in a row, its bounds, and whether it
 -- was left out.
-use Rattle.std.proofs.Common.{◌≡◌, ℕ, ◌+◌, ◌<◌, ◌≤◌, Bool, true, false, not, ltb, List, [], ◌∷◌, ◌++◌, map, length, take, drop, get_or, set, sum, Some, None, refl, sym, ◌∙◌, ap, arith, All, append-nil}
+use Rattle.std.proofs.Common.{◌≡◌, ℕ, ◌<◌, ◌≤◌, Bool, true, false, ltb, List, [], ◌∷◌, ◌++◌, length, get_or, set, sum, Some, None, refl, sym, ◌∙◌, ap, arith, All, append-nil}
 use Rattle.std.specs.Prelude.{Option}
 use Rattle.std.specs.List.{concat}
 use Rattle.std.proofs.lemmas.Bool.{lt-ltb, le-ltb}
@@ -14,7 +14,7 @@ use Rattle.cover_claims.specs.CountsInRow.{isotopes_of_all, counts_by_element}
 use Rattle.cover_claims.specs.Claims.{Claimed, isotopologues_in, member_at, is_member}
 use Rattle.cover_claims.specs.Surroundings.{with_counts, IsAround, left_out_among}
 use Rattle.cover_claims.proofs.RowLemmas.{counts_by_element-concat, length-concat}
-use Rattle.cover_claims.proofs.Surround.{length-isotopologue, length-bounds_of, counts-at, with-IsIsotopologue, with-bounds, concat-with, count-small}
+use Rattle.cover_claims.proofs.Surround.{length-isotopologue, length-bounds_of, counts-at, with-IsIsotopologue, with-bounds, concat-with}
 
 module _ (claimed : Claimed) (place : ℕ) (all : All (IsIsotopologue claimed.elements) (isotopologues_in claimed.members))
     (within : place < length claimed.members) where

@@ -1,8 +1,8 @@
 -- Halving the members that stand in order finds an isotopologue exactly where it is one of them.
-use Rattle.std.proofs.Common.{◌≡◌, ℕ, suc, ◌+◌, ◌<◌, ◌≤◌, Bool, true, false, List, [], length, map, get_or, None, refl, sym, ◌∙◌, ap, arith, ⊎_elim}
-use Rattle.std.specs.Prelude.{◌⊎◌, Contains}
+use Rattle.std.proofs.Common.{◌≡◌, ℕ, ◌+◌, ◌<◌, ◌≤◌, Bool, true, false, List, [], length, None, refl, sym, ◌∙◌, arith, ⊎_elim}
+use Rattle.std.specs.Prelude.{Contains}
 use Rattle.std.specs.declared.cmp.Ordering.TheVariants.{Less, Equal, Greater}
-use Rattle.std.proofs.lemmas.Bool.{cases_lt, cases_order}
+use Rattle.std.proofs.lemmas.Bool.{cases_lt}
 use Rattle.std.proofs.lemmas.List.{length-map, get_or_default}
 use Rattle.multinomial_bounds.specs.Isotopologue.{Element}
 use Rattle.isotopologue_sets.specs.Covers.{stands_before}

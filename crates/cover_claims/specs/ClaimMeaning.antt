@@ -1,6 +1,6 @@
 -- What an accepted claim says. Coverages are in units of 10^-18.
-use Rattle.std.specs.Prelude.{◌≡◌, ℕ, List, length, All}
-use Rattle.multinomial_bounds.specs.Isotopologue.{Element, IsIsotopologue}
+use Rattle.std.specs.Prelude.{◌≡◌, length, All}
+use Rattle.multinomial_bounds.specs.Isotopologue.{IsIsotopologue}
 use Rattle.isotopologue_sets.specs.Coverage.{Reaches, Bound}
 use Rattle.cover_claims.specs.declared.claim.ClaimNumbers.{ClaimNumbers}
 use Rattle.cover_claims.specs.Claims.{Claimed, isotopologues_in, marked_in}

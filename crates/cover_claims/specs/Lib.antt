@@ -7,4 +7,6 @@ pub mod CountsInRow
 pub mod Claims
 pub mod MemberRows
 pub mod Surroundings
+pub mod FaultNames
 pub mod ClaimMeaning
+pub mod CoverClaims

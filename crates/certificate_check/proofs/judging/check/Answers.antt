@@ -1,18 +1,15 @@
 -- The tests are taken in turn.
-use Rattle.std.proofs.Common.{◌≡◌, ◌<◌, ◌≤◌, ◌+◌, ◌*◌, ℕ, List, Bool, length, get_or, map, sym, ap, ◌∙◌, arith, Some, None, All, subst, refl}
-use Rattle.multinomial_bounds.specs.Isotopologue.{Element, IsIsotopologue}
-use Rattle.cover_claims.specs.CountsInRow.{isotopes_of_all}
+use Rattle.std.proofs.Common.{◌≡◌, length, sym, ap, ◌∙◌, arith, None, refl}
 use Rattle.cover_claims.specs.MemberRows.{member_rows}
-use Rattle.cover_claims.specs.Claims.{isotopologues_in}
 use Rattle.std.specs.Prelude.{Result, Ok, Err, IfOk}
 use Rattle.std.proofs.lemmas.List.{length-map}
 use Rattle.certificate_text.specs.Certificates.{CertificateEntries}
 use Rattle.isotopologue_text.specs.Isotopologues.{formula_elements}
 use Rattle.cover_claims.specs.declared.claim.ClaimNumbers.{ClaimNumbers}
 use Rattle.cover_claims.specs.Claims.{Claimed, claim_fault}
-use Rattle.cover_claims.proofs.OpenNeighbours.{IfNames, fault-names}
+use Rattle.cover_claims.proofs.OpenNeighbours.{fault-names}
 use Rattle.certificate_check.specs.Judgements.{first_unnamed, claimed_by, numbers_of, judgement_of, judgement_of_lines, judgement}
-use Rattle.certificate_check.proofs.LineMembers.{has-text, members-are, rows-long, rows-members, rows_of, marks_of}
+use Rattle.certificate_check.proofs.LineMembers.{has-text, members-are, rows-long, rows-members, marks_of}
 use Rattle.certificate_check.proofs.CertificateTruth.{certificate-true}
 use Rattle.certificate_check.proofs.JudgementSteps.{coverage-zero, coverage-high, many-members, of-lines}
 use Rattle.certificate_check.proofs.judging.check.Goals as goal

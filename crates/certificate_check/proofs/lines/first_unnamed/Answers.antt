@@ -1,12 +1,8 @@
 -- The lines are read in turn.
-use Rattle.std.proofs.Common.{◌≡◌, ◌<◌, ◌≤◌, ◌+◌, ℕ, List, length, get_or, sym, ap, ◌∙◌, arith, true, false, cond, Bool, Some, None, ⊎_elim, subst}
-use Rattle.std.specs.Prelude.{Option, is_none}
+use Rattle.std.proofs.Common.{◌≡◌, ◌<◌, ◌≤◌, length, sym, ◌∙◌, arith, ⊎_elim}
 use Rattle.std.proofs.lemmas.Bool.{cases_lt}
-use Rattle.isotopologue_text.specs.Isotopologues.{IsOfText}
-use Rattle.isotopologue_text.specs.ReadCounts.{counts_of_text}
-use Rattle.certificate_text.specs.Certificates.{CertLineEntry}
 use Rattle.cover_claims.proofs.FindLemmas.{found-here, not-here}
-use Rattle.certificate_check.specs.Judgements.{is_unnamed, first_unnamed}
+use Rattle.certificate_check.specs.Judgements.{is_unnamed}
 use Rattle.certificate_check.proofs.LineMembers.{line-unnamed, line-has, line-meaning}
 use Rattle.certificate_check.proofs.lines.first_unnamed.Goals as goal
 

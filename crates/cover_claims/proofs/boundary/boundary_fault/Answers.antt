@@ -1,5 +1,5 @@
 -- The members are gone through in turn.
-use Rattle.std.proofs.Common.{◌≡◌, ◌<◌, ◌≤◌, ◌+◌, length, sym, ap, ◌∙◌, arith}
+use Rattle.std.proofs.Common.{◌<◌, ◌≤◌, length, sym, ◌∙◌, arith}
 use Rattle.std.proofs.lemmas.List.{length-map}
 use Rattle.cover_claims.specs.Claims.{isotopologues_in}
 use Rattle.cover_claims.proofs.Exits.{fault-all, fault-none, fault-some, fault-end}

@@ -1,5 +1,5 @@
 -- Each giver's moves are tried in turn.
-use Rattle.std.proofs.Common.{◌≡◌, ◌<◌, ◌+◌, ℕ, List, [], ◌∷◌, length, sym, ap, ◌∙◌, Vec, Global, arith, refl}
+use Rattle.std.proofs.Common.{length, sym, ap, ◌∙◌, arith, refl}
 use Rattle.cover_claims.specs.Claims.{isotopologues_in, member_at}
 use Rattle.cover_claims.specs.Surroundings.{left_out_among}
 use Rattle.cover_claims.proofs.FirstFound.{moves-all, giver-none, giver-some, giver-skip}

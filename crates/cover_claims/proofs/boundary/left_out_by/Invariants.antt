@@ -1,4 +1,4 @@
-use Rattle.std.proofs.Common.{◌≡◌, ◌-◌, ℕ, length}
+use Rattle.std.proofs.Common.{◌≡◌, length}
 use Rattle.cover_claims.specs.Claims.{isotopologues_in, member_at}
 use Rattle.isotopologue_neighbours.specs.Moves.{counts_moved}
 use Rattle.cover_claims.specs.Surroundings.{left_out_among}

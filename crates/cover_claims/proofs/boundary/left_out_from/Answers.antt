@@ -1,6 +1,5 @@
 -- Each taker's isotopologue is tried in turn.
-use Rattle.std.proofs.Common.{◌≡◌, ◌+◌, ℕ, List, [], ◌∷◌, length, sym, ap, ◌∙◌}
-use Rattle.std.proofs.lemmas.List.{length-set}
+use Rattle.std.proofs.Common.{ℕ, List, [], ◌∷◌, length, sym, ap, ◌∙◌}
 use Rattle.multinomial_bounds.proofs.PathLemmas.{length-moved}
 use Rattle.cover_claims.specs.Claims.{isotopologues_in, member_at}
 use Rattle.cover_claims.specs.Surroundings.{left_out_among}

@@ -1,4 +1,4 @@
-use Rattle.std.proofs.Common.{◌≡◌, ◌-◌, ℕ, length, map, not, eqb}
+use Rattle.std.proofs.Common.{◌≡◌, ◌-◌, length, map, not, eqb}
 use Rattle.std.specs.Prelude.{filter}
 use Rattle.std.specs.List.{range_with_len}
 use Rattle.isotopologue_neighbours.specs.Moves.{moved, takers}

@@ -1,13 +1,12 @@
 -- Each element's moves are tried in turn.
-use Rattle.std.proofs.Common.{◌≡◌, ◌<◌, ◌≤◌, ◌+◌, ℕ, List, [], ◌∷◌, length, map, take, drop, get_or, sym, ap, ◌∙◌, arith, All, refl}
+use Rattle.std.proofs.Common.{◌≡◌, ◌<◌, ◌≤◌, ◌+◌, ℕ, List, [], length, map, take, drop, get_or, sym, ap, ◌∙◌, arith, refl}
 use Rattle.std.specs.Prelude.{find}
-use Rattle.std.specs.List.{concat}
 use Rattle.multinomial_bounds.specs.Bounds.{floor_of, ceiling_of}
 use Rattle.multinomial_bounds.specs.Isotopologue.{Element, bounds_of}
 use Rattle.cover_claims.specs.CountsInRow.{counts_by_element}
 use Rattle.cover_claims.specs.Claims.{Claimed, isotopologues_in, member_at, is_left_out}
 use Rattle.isotopologue_neighbours.specs.Moves.{counts_moved}
-use Rattle.cover_claims.specs.Surroundings.{IsAround, as_row, left_out_among}
+use Rattle.cover_claims.specs.Surroundings.{as_row, left_out_among}
 use Rattle.cover_claims.proofs.OtherCounts.{member-is}
 use Rattle.cover_claims.proofs.Surround.{length-isotopologue}
 use Rattle.cover_claims.proofs.NeighboursByElement.{neighbours-all, element-none, element-some, element-end, from-room, own-room, own-row, own-long, next-from, row-around, own-small}

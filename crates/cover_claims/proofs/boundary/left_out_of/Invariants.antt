@@ -1,4 +1,4 @@
-use Rattle.std.proofs.Common.{◌≡◌, ℕ, length, map, take, List}
+use Rattle.std.proofs.Common.{◌≡◌, length, map, take}
 use Rattle.std.specs.Prelude.{find}
 use Rattle.std.specs.List.{concat}
 use Rattle.multinomial_bounds.specs.Bounds.{floor_of, ceiling_of}

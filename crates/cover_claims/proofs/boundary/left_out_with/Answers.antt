@@ -1,10 +1,9 @@
 -- The member with other counts of one element is an isotopologue, whose bounds and counts are those that are found.
-use Rattle.std.proofs.Common.{◌≡◌, ℕ, ◌<◌, ◌≤◌, ◌++◌, List, true, false, length, map, sym, ap, arith, ◌∙◌, rules, Some, None}
+use Rattle.std.proofs.Common.{◌≡◌, ◌<◌, length, map, sym, arith, ◌∙◌}
 use Rattle.std.proofs.lemmas.List.{length-map}
 use Rattle.multinomial_bounds.specs.Bounds.{floor_of, ceiling_of}
 use Rattle.isotopologue_sets.specs.Layers.{lo_of, hi_of}
-use Rattle.cover_claims.specs.CountsInRow.{counts_by_element, isotopes_of_all}
-use Rattle.cover_claims.specs.Claims.{isotopologues_in, member_at, is_member}
+use Rattle.cover_claims.specs.Claims.{isotopologues_in, member_at}
 use Rattle.cover_claims.specs.Surroundings.{with_counts}
 use Rattle.cover_claims.proofs.OtherCounts.{other-within, other-counts, other-by-element, other-length, other-bound, parts-within, not-above, not-out, left-out}
 use Rattle.cover_claims.proofs.boundary.left_out_with.Goals as goal

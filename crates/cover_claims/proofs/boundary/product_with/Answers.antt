@@ -1,5 +1,5 @@
 -- One part is exchanged and put back.
-use Rattle.std.proofs.Common.{◌≡◌, ℕ, sym, ap, ◌∙◌, map, get_or, set}
+use Rattle.std.proofs.Common.{ap, ◌∙◌, set}
 use Rattle.std.proofs.lemmas.List.{map-set, set-set, set-get_or}
 use Rattle.multinomial_bounds.specs.Bounds.{floor_of, ceiling_of, product_of}
 use Rattle.cover_claims.proofs.boundary.product_with.Goals as goal

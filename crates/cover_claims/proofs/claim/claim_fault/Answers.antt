@@ -1,11 +1,6 @@
 -- The tests are taken in turn.
-use Rattle.std.proofs.Common.{◌≡◌, ◌<◌, ◌≤◌, ◌-◌, ℕ, List, length, sym, ap, ◌∙◌, arith, true, false, not, Some, None}
-use Rattle.std.specs.Prelude.{Option}
-use Rattle.isotopologue_sets.specs.Layers.{lo_total, mode_of_each}
-use Rattle.isotopologue_neighbours.specs.Closed.{greatest_total}
-use Rattle.cover_claims.specs.declared.fault.ClaimFault.{ClaimFault}
+use Rattle.std.proofs.Common.{ℕ, sym, ap, ◌∙◌, arith, Some}
 use Rattle.cover_claims.specs.declared.fault.ClaimFault.TheVariants.{SizeDiffers, CoverShort, BoundTooHigh}
-use Rattle.cover_claims.specs.Claims.{isotopologues_in, marked_in, is_member, first_misplaced, boundary_fault, claim_fault}
 use Rattle.cover_claims.proofs.ClaimSteps.{misplaced, no_mode, open_boundary, other_size, short, no_bound, too_high, accepted}
 use Rattle.cover_claims.proofs.ClaimTruth.{claim-true}
 use Rattle.cover_claims.proofs.claim.claim_fault.Goals as goal

@@ -1,8 +1,8 @@
-use Rattle.std.proofs.Common.{◌≡◌, ◌≤◌, ℕ, List, length, sym, ap, ◌∙◌, arith}
+use Rattle.std.proofs.Common.{◌≡◌, ℕ, List, ap, ◌∙◌, arith}
 use Rattle.std.specs.List.{concat}
 use Rattle.multinomial_bounds.specs.Isotopologue.{Element}
 use Rattle.isotopologue_sets.specs.Layers.{mode_of_each}
-use Rattle.cover_claims.specs.CountsInRow.{isotopes_of_all, counts_by_element}
+use Rattle.cover_claims.specs.CountsInRow.{counts_by_element}
 use Rattle.cover_claims.specs.Claims.{isotopologues_in, is_member}
 use Rattle.cover_claims.proofs.RowLemmas.{length-concat}
 use Rattle.cover_claims.proofs.ModeRow.{modes-IsIsotopologue, modes-by_element}

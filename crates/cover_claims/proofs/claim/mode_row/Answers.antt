@@ -1,7 +1,4 @@
-use Rattle.std.proofs.Common.{◌≡◌, ◌++◌, ℕ, List, sym, ap, ◌∙◌}
-use Rattle.std.specs.List.{concat}
-use Rattle.multinomial_bounds.specs.Mode.{mode_of_atoms}
-use Rattle.isotopologue_sets.specs.Layers.{mode_of_each}
+use Rattle.std.proofs.Common.{sym}
 use Rattle.cover_claims.proofs.ModeRow.{modes-more}
 use Rattle.cover_claims.proofs.claim.mode_row.Goals as goal
 

@@ -1,10 +1,9 @@
 -- Each element takes its counts from the front of those that are left.
-use Rattle.std.proofs.Common.{◌≡◌, ◌≤◌, ℕ, List, [], ◌∷◌, ◌++◌, length, map, take, drop, sym, ap, arith, ◌∙◌}
+use Rattle.std.proofs.Common.{◌≡◌, ℕ, List, [], ◌∷◌, ◌++◌, length, map, take, drop, ap, arith, ◌∙◌}
 use Rattle.std.proofs.lemmas.List.{map-append}
 use Rattle.multinomial_bounds.specs.Bounds.{floor_of, ceiling_of}
 use Rattle.multinomial_bounds.specs.Path.{bound_of}
-use Rattle.multinomial_bounds.specs.declared.enclosure.Enclosure.{Enclosure}
-use Rattle.cover_claims.proofs.Parts.{PartsBefore, parts-counts, parts-room, parts-next, parts-all}
+use Rattle.cover_claims.proofs.Parts.{parts-counts, parts-room, parts-next, parts-all}
 use Rattle.cover_claims.proofs.enclosures.parts_of.Goals as goal
 
 pub split_at-requires : goal.split_at-requires

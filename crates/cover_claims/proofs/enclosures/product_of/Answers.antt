@@ -1,5 +1,5 @@
 -- One part more is one step of the product.
-use Rattle.std.proofs.Common.{◌≡◌, ℕ, ◌*◌, sym, ap, ◌∙◌}
+use Rattle.std.proofs.Common.{ℕ, ◌*◌, sym, ap, ◌∙◌}
 use Rattle.multinomial_bounds.specs.Bounds.{certainty, floor_of, ceiling_of}
 use Rattle.multinomial_bounds.proofs.EnclosureLemmas.{product_of-none}
 use Rattle.cover_claims.proofs.Parts.{product-more}

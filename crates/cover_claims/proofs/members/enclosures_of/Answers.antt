@@ -1,8 +1,7 @@
 -- The row at a place is the member there.
-use Rattle.std.proofs.Common.{◌≡◌, ◌+◌, ◌*◌, ◌≤◌, ℕ, List, ◌++◌, [], ◌∷◌, length, take, drop, sym, ap, arith, ◌∙◌, All, length-append}
-use Rattle.multinomial_bounds.specs.Isotopologue.{IsIsotopologue}
+use Rattle.std.proofs.Common.{◌≡◌, ◌+◌, ◌*◌, ℕ, [], ◌∷◌, length, ap, arith, ◌∙◌, length-append}
 use Rattle.isotopologue_sets.specs.Layers.{lo_of, hi_of}
-use Rattle.cover_claims.specs.CountsInRow.{isotopes_of_all, counts_by_element}
+use Rattle.cover_claims.specs.CountsInRow.{counts_by_element}
 use Rattle.cover_claims.specs.Claims.{isotopologues_in, member_at}
 use Rattle.cover_claims.specs.MemberRows.{member_rows}
 use Rattle.cover_claims.proofs.RowLemmas.{member_at-row, length-isotopologues, row-within, length-row}

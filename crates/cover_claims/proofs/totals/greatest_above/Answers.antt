@@ -1,4 +1,4 @@
-use Rattle.std.proofs.Common.{◌≡◌, ℕ, List, map, ltb, length, take, ap, ◌∙◌, sym, arith, rules}
+use Rattle.std.proofs.Common.{◌≡◌, ℕ, List, map, ltb, take, ap, ◌∙◌, arith, rules}
 use Rattle.std.specs.Prelude.{filter}
 use Rattle.std.proofs.lemmas.Fn.{always_returns_same}
 use Rattle.std.proofs.lemmas.List.{length-map, take_all}

@@ -1,4 +1,4 @@
-use Rattle.std.proofs.Common.{◌≡◌, ℕ, List, ◌+◌, ◌-◌, ◌*◌, length, take, sum, ap, ◌∙◌}
+use Rattle.std.proofs.Common.{ℕ, List, ◌+◌, ◌-◌, ◌*◌, length, take, sum, ap, ◌∙◌}
 use Rattle.isotopologue_neighbours.specs.Closed.{greatest_total}
 use Rattle.cover_claims.proofs.totals.greatest_total.Goals as goal
 

@@ -1,4 +1,4 @@
-use Rattle.std.proofs.Common.{◌≡◌, ℕ, List, ◌+◌, ◌≤◌, ◌∷◌, [], length, take, get_or, sym, ap, ◌∙◌, arith, false, length-append}
+use Rattle.std.proofs.Common.{◌∷◌, [], length, take, sym, ap, ◌∙◌, arith, false, length-append}
 use Rattle.cover_claims.specs.Claims.{ClaimedMember, marked_in, isotopologues_in, member_at}
 use Rattle.cover_claims.proofs.MemberTotals.{marked-yes, marked-no}
 use Rattle.cover_claims.proofs.totals.marked_count.Goals as goal

@@ -1,5 +1,5 @@
-use Rattle.std.proofs.Common.{◌≡◌, ℕ, List, ◌+◌, ◌*◌, ◌≤◌, ◌∷◌, [], length, take, get_or, sym, ap, ◌∙◌, arith, false}
-use Rattle.isotopologue_sets.specs.Layers.{lo_of, lo_total}
+use Rattle.std.proofs.Common.{[], take, sym, ap, ◌∙◌, arith, false}
+use Rattle.isotopologue_sets.specs.Layers.{lo_total}
 use Rattle.cover_claims.specs.Claims.{ClaimedMember, marked_in, isotopologues_in, member_at}
 use Rattle.cover_claims.proofs.MemberTotals.{marked-yes, marked-no, lo_total-push}
 use Rattle.cover_claims.proofs.totals.marked_total.Goals as goal

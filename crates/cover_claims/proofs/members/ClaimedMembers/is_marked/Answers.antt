@@ -1,5 +1,5 @@
 -- The mark at a place is kept beside its counts.
-use Rattle.std.proofs.Common.{◌≡◌, ◌<◌, length, get_or, ap, sym, ◌∙◌, arith}
+use Rattle.std.proofs.Common.{◌∙◌, arith}
 use Rattle.cover_claims.proofs.MemberViews.{mark-within, mark-is}
 use Rattle.cover_claims.proofs.members.ClaimedMembers.is_marked.Goals as goal
 

@@ -1,4 +1,4 @@
-use Rattle.std.proofs.Common.{◌≡◌, length, sym, ap, ◌∙◌, arith}
+use Rattle.std.proofs.Common.{length, ap, arith}
 use Rattle.cover_claims.specs.Claims.{Claimed}
 use Rattle.cover_claims.proofs.RowLemmas.{length-member_rows}
 use Rattle.cover_claims.proofs.members.ClaimedMembers.len.Goals as goal

@@ -1,6 +1,4 @@
 -- The counts at a place are a row.
-use Rattle.std.proofs.Common.{◌≡◌, ℕ, List, length, take, drop, ◌*◌, ap, ◌∙◌}
-use Rattle.cover_claims.specs.CountsInRow.{counts_by_element}
 use Rattle.cover_claims.proofs.MemberViews.{row-fits, row-length, row-counts}
 use Rattle.cover_claims.proofs.members.ClaimedMembers.row.Goals as goal
 
