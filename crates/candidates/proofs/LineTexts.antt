@@ -19,7 +19,7 @@ use Rattle.candidates.specs.PeakFormulas.{counts_of, items_of}
 use Rattle.candidates.specs.Searches.{masses_of}
 use Rattle.candidates.specs.Standings.{IsToken}
 use Rattle.candidates.proofs.CandidateTests.{formula-counts, mass-at}
-use Rattle.report_text.specs.ReportLines.{IsPrintedMass, decompose_line, formula_line}
+use Rattle.report_lines.specs.ReportLines.{IsPrintedMass, decompose_line, formula_line}
 
 -- the mass of an ion is one that is printed
 pub printed-mass : (mass : ℤ) → IsIonMass mass → IsPrintedMass mass

@@ -12,4 +12,4 @@ pub use Rattle.adducts.specs.Ions
 pub use Rattle.golden_rules.specs.Verdicts
 pub use Rattle.mass_scaling.specs.Tolerances
 pub use Rattle.formula_text.specs.Formulas
-pub use Rattle.report_text.specs.ReportLines
+pub use Rattle.report_lines.specs.ReportLines

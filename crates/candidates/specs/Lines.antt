@@ -1,7 +1,7 @@
 -- The lines of candidates in a report.
 use Rattle.std.specs.Prelude.{ℕ, List, []}
 use Rattle.std.specs.Option.{option_map_or}
-use Rattle.report_text.specs.ReportLines.{decompose_line}
+use Rattle.report_lines.specs.ReportLines.{decompose_line}
 use Rattle.candidates.specs.Grounds.{GroundValue}
 use Rattle.candidates.specs.PeakFormulas.{formula_at}
 use Rattle.candidates.specs.Enumeration.{CandidateEnumeration}

@@ -7,7 +7,7 @@
 //!
 //! The crate stands on `decompose` for count lists in a window of mass, on `mass_scaling` for windows and tolerances, on
 //! `adducts` for ions, on `golden_rules` for rules, on `alphabet_text` for alphabets, on `formula_text`,
-//! `written_items` and `element_table` for formulas, on `report_text` for their lines, and on `outside_ports` for the
+//! `written_items` and `element_table` for formulas, on `report_lines` for their lines, and on `outside_ports` for the
 //! counter of steps.
 #![tactic(auto)]
 

@@ -5,14 +5,14 @@ ghost use Rattle.formula_text.specs.Masses as formulas;
 ghost use Rattle.decompose.specs.Masses.{mass_of};
 ghost use Rattle.mass_scaling.specs.declared.limits.TheConstants.{MAX_COPIES};
 ghost use Rattle.adducts.specs.Ions.{shift_of};
-ghost use Rattle.report_text.specs.ReportLines.{decompose_line};
+ghost use Rattle.report_lines.specs.ReportLines.{decompose_line};
 ghost use Rattle.candidates.specs.Lines.{line_at};
 ghost use Rattle.candidates.specs.Standings.{IsToken};
 
 use crate::grounds::Ground;
 use adducts::has_ion;
 use alphabet_text::MAX_ENTRIES;
-use report_text::push_items_line;
+use report_lines::push_items_line;
 use std::alloc::AllocError;
 use written_items::Item;
 

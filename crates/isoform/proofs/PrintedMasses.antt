@@ -21,7 +21,7 @@ use Rattle.isotopologue_text.proofs.Found.{found}
 use Rattle.isotopologue_sets.specs.Covers.{Member, cover_numbers}
 use Rattle.isotopologue_text.specs.Isotopologues.{formula_elements}
 use Rattle.cover_certificate.specs.FormulaCovers.{CoverEntries, MemberEntry, cover_of, member_entry}
-use Rattle.report_text.specs.ReportLines.{IsPrintedWith, cover_members}
+use Rattle.report_lines.specs.ReportLines.{IsPrintedWith, cover_members}
 use Rattle.isoform.specs.Inputs.{IsElectronShift}
 
 -- ---- no isotope is heavier than 400 Da

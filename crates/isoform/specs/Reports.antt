@@ -3,7 +3,7 @@ use Rattle.std.specs.Prelude.{ℕ, List, length, ◌++◌}
 use Rattle.std.specs.List.{flat_map}
 use Rattle.candidates.specs.Lines.{line_at}
 use Rattle.cover_certificate.specs.FormulaCovers.{CoverEntries, cover_of}
-use Rattle.report_text.specs.ReportLines.{decompose_head, envelope_text, peak_line}
+use Rattle.report_lines.specs.ReportLines.{decompose_head, envelope_text, peak_line}
 use Rattle.isoform.specs.PageFormulas.{asked_counts, numbered}
 use Rattle.isoform.specs.Queries.{CoverQuery, FormulaQuery}
 

@@ -26,7 +26,7 @@ use command_words::Word;
 use formula_text::{Formula, read_formula};
 use mass_scaling::Tolerance;
 use outside_ports::{Shelf, Sink, Steps};
-use report_text::{push_decompose_head, push_peak_line};
+use report_lines::{push_decompose_head, push_peak_line};
 use std::alloc::{AllocError, Global};
 use std::marker::{Brand, Model};
 use std::sync::ledger::{Blank, Ledger};

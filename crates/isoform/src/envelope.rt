@@ -12,7 +12,7 @@ ghost use Rattle.isoform.specs.Outside.{IsPart, Puts, shelved};
 ghost use Rattle.isoform.specs.Refusals.{GivesInput};
 ghost use Rattle.isoform.specs.Reports.{asked_cover, cover_report};
 ghost use Rattle.isoform.specs.Steps.{ion_step};
-ghost use Rattle.report_text.specs.ReportLines.{IsPrintedWith, isotopologue_line};
+ghost use Rattle.report_lines.specs.ReportLines.{IsPrintedWith, isotopologue_line};
 
 use crate::input_fault::InputFault;
 use crate::inputs::{adduct_in, table_of, traced_table};
@@ -24,7 +24,7 @@ use cover_certificate::{Cover, CoverFault, CoverMember, cover_of};
 use element_table::Table;
 use formula_text::{Formula, read_formula};
 use outside_ports::{Shelf, Sink};
-use report_text::{envelope_head, push_isotopologue_line};
+use report_lines::{envelope_head, push_isotopologue_line};
 use std::alloc::Global;
 use std::marker::Model;
 
@@ -49,7 +49,7 @@ pub struct Envelope {
 impl Model for Envelope {
     ghost use Rattle.std.specs.Prelude.{◌≡◌, All};
     ghost use Rattle.cover_certificate.specs.FormulaCovers.{cover_of};
-    ghost use Rattle.report_text.specs.ReportLines.{IsPrintedWith, cover_members};
+    ghost use Rattle.report_lines.specs.ReportLines.{IsPrintedWith, cover_members};
     ghost use Rattle.isoform.specs.Claims.{HoldsTrue};
     ghost use Rattle.isoform.specs.Inputs.{IsElectronShift};
     ghost use Rattle.isoform.specs.Queries.{CoverQuery};

@@ -7,7 +7,7 @@
 //! Contracts see words and reports as their bytes, and files and streams as `outside_ports` shows them. The program
 //! stands on `command_words` for its words, on `element_table`, `peak_text`, `alphabet_text`, `adducts`,
 //! `golden_rules` and `formula_text` for what it reads, on `candidates` for the formulas of a peak, on
-//! `cover_certificate` for the cover of an ion, on `report_text` for lines, and on `outside_ports` for its devices.
+//! `cover_certificate` for the cover of an ion, on `report_lines` for lines, and on `outside_ports` for its devices.
 //! Nothing stands above it. It gives out [`request_of`] and [`cover_of`] with their types too.
 #![tactic(auto)]
 

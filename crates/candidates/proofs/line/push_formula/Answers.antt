@@ -5,7 +5,7 @@ use Rattle.std.proofs.lemmas.Int.{to_z-of_z}
 use Rattle.adducts.specs.Ions.{ion_of}
 use Rattle.adducts.specs.Adducts.{divisor_of}
 use Rattle.adducts.proofs.IonCounts.{formula-AreCounts}
-use Rattle.report_text.specs.ReportLines.{IsPrintedMass, formula_line}
+use Rattle.report_lines.specs.ReportLines.{IsPrintedMass, formula_line}
 use Rattle.candidates.proofs.LineTexts.{ion-printed, ion-line, line-told}
 use Rattle.candidates.proofs.line.push_formula.Goals as goal
 

@@ -6,7 +6,7 @@ use Rattle.std.proofs.lemmas.Result.{err_from_is_err_and}
 use Rattle.std.specs.List.{flat_map}
 use Rattle.cover_certificate.specs.FormulaCovers.{MemberEntry}
 use Rattle.isoform.specs.Outside.{Puts}
-use Rattle.report_text.specs.ReportLines.{IsPrintedWith, isotopologue_line}
+use Rattle.report_lines.specs.ReportLines.{IsPrintedWith, isotopologue_line}
 use Rattle.isoform.proofs.Puts.{puts_nil}
 use Rattle.isoform.proofs.PutLines.{line_not_put, line_put, lines_memory}
 use Rattle.std.specs.Int.{w128}

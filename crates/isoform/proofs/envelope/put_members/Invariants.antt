@@ -2,7 +2,7 @@ use Rattle.std.proofs.Common.{take}
 use Rattle.std.specs.Prelude.{Ok}
 use Rattle.std.specs.List.{flat_map}
 use Rattle.isoform.specs.Outside.{Puts}
-use Rattle.report_text.specs.ReportLines.{isotopologue_line}
+use Rattle.report_lines.specs.ReportLines.{isotopologue_line}
 use Rattle.isoform.proofs.envelope.put_members.Given as goal
 
 -- the lines of the members so far were put

@@ -2,7 +2,7 @@ use Rattle.std.proofs.Common.{◌≡◌, ℕ, List, ◌++◌, length, refl, ap, 
 use Rattle.std.specs.Prelude.{Err}
 use Rattle.std.specs.List.{flat_map}
 use Rattle.std.proofs.lemmas.Result.{err_from_is_err_and}
-use Rattle.report_text.specs.ReportLines.{decompose_head}
+use Rattle.report_lines.specs.ReportLines.{decompose_head}
 use Rattle.isoform.specs.Outside.{Puts}
 use Rattle.isoform.specs.PageFormulas.{numbered}
 use Rattle.isoform.specs.Queries.{FormulaQuery}

@@ -5,7 +5,7 @@ use Rattle.std.proofs.lemmas.Result.{err_from_is_err_and}
 use Rattle.candidates.specs.Enumeration.{counts_left}
 use Rattle.candidates.specs.Grounds.{GroundValue}
 use Rattle.candidates.specs.Lines.{line_at}
-use Rattle.report_text.specs.ReportLines.{peak_line}
+use Rattle.report_lines.specs.ReportLines.{peak_line}
 use Rattle.isoform.specs.Outside.{Puts}
 use Rattle.isoform.specs.PageFormulas.{counts_after, first_of}
 use Rattle.isoform.specs.Queries.{FormulaQuery}

@@ -5,7 +5,7 @@ use Rattle.std.specs.List.{flat_map}
 use Rattle.cover_certificate.specs.FormulaCovers.{CoverEntries, MemberEntry}
 use Rattle.isoform.specs.Outside.{Puts}
 use Rattle.isoform.specs.Reports.{cover_report}
-use Rattle.report_text.specs.ReportLines.{IsPrintedWith, cover_members, envelope_head, envelope_text, isotopologue_line}
+use Rattle.report_lines.specs.ReportLines.{IsPrintedWith, cover_members, envelope_head, envelope_text, isotopologue_line}
 use Rattle.std.specs.Int.{w128}
 use Rattle.std.proofs.lemmas.Int.{to_z-of_z}
 use Rattle.isoform.proofs.PrintedMasses.{fits_small}
