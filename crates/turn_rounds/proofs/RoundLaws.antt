@@ -11,8 +11,8 @@ use Rattle.std.proofs.lemmas.List.FromFn.{take-map-range_with_len, get_or-map-ra
 use Rattle.std.proofs.lemmas.List.FromFn.{map-range_with_len_more, length-enumerate_from}
 use Rattle.std.specs.Option.{option_map}
 use Rattle.std.proofs.lemmas.Option.{slice_get-map, slice_get_within, slice_get-get_or, get_or_from_slice_get}
-use Rattle.job_turns.specs.Turns.{Progress, progress_after, board_after, MeetsNoStop, TakesTurn, TurnOnBoard, KeepsItems}
-use Rattle.job_turns.specs.Turns.{EndsAtFault}
+use Rattle.job_turns.specs.Turns.{Progress, progress_after, board_after, MeetsNoStop, TakesTurn, TurnOnBoard}
+use Rattle.job_turns.specs.Turns.{KeepsItems, EndsAtFault}
 use Rattle.job_turns.specs.declared.board.Turn.{Turn}
 use Rattle.job_turns.specs.declared.board.TurnEnd.{TurnEnd}
 use Rattle.job_turns.specs.declared.board.TurnEnd.TheVariants.{Full, Finished}
@@ -92,7 +92,8 @@ plays_to_fault {Item} {Fault} allow count total place before now next fault with
     play_ends (round_turns n allow total) count d before now next fault (within_turns n allow total count within)
     (subst (λ t. MeetsNoStop t before) (sym first) gave.no_stop)
     (gave.given ∙ ap (λ t. board_after t before) (sym first))
-    (subst (λ (t : Turn). TurnOnBoard t.job t.allow now (Err fault) next) (sym (turn_at n allow total count d within)) at)
+    (subst (λ (t : Turn). TurnOnBoard t.job t.allow now (Err fault) next)
+    (sym (turn_at n allow total count d within)) at)
 
 -- a job whose stop wasn't met was allowed no more than its items
 not_met : {Item Fault : Type 0} (turns jobs place : ℕ) (allow : ℕ) (before : List (Progress Item Fault))

@@ -11,7 +11,8 @@ earlier_cases : {Fault : Type 0} (a b : Option (Stop Fault)) (stop : Stop Fault)
 earlier_cases None b stop is = inr is
 earlier_cases (Some a) None stop is = inl is
 earlier_cases (Some a) (Some b) stop is =
-    elim (nat_lt b.turn a.turn) as (λ v. cond v (Some b) (Some a) ≡ Some stop → (Some a ≡ Some stop) ⊎ (Some b ≡ Some stop))
+    elim (nat_lt b.turn a.turn)
+    as (λ v. cond v (Some b) (Some a) ≡ Some stop → (Some a ≡ Some stop) ⊎ (Some b ≡ Some stop))
     [ true ↦ λ e. inr e | false ↦ λ e. inl e ] is
 
 earlier_first : {Fault : Type 0} (stop : Stop Fault) (other : Option (Stop Fault))
@@ -33,8 +34,8 @@ pub record StopsAt {Item Fault : Type 0} (jobs allow place : ℕ) (list : List (
   pub is_there : slice_get list at ≡ Some job
   pub is_stop : stop_at jobs allow (place + at) job ≡ Some stop
 
-one_behind : {Item Fault : Type 0} (jobs allow place : ℕ) (job : Progress Item Fault) (rest : List (Progress Item Fault))
-    (at : ℕ) (stop : Stop Fault) → StopsAt jobs allow (place + 1) rest at stop
+one_behind : {Item Fault : Type 0} (jobs allow place : ℕ) (job : Progress Item Fault)
+    (rest : List (Progress Item Fault)) (at : ℕ) (stop : Stop Fault) → StopsAt jobs allow (place + 1) rest at stop
     → StopsAt jobs allow place (job ∷ rest) (suc at) stop
 one_behind jobs allow place job rest at stop stops = record {
   job = stops.job;
@@ -97,7 +98,8 @@ first_is {Item} {Fault} jobs allow place (job ∷ rest) (suc at) stop stops late
     ∙ earlier_second stop (stop_at jobs allow place job) own
 
 -- what a stop says
-pub record IsStopOf {Item Fault : Type 0} (jobs allow place : ℕ) (job : Progress Item Fault) (stop : Stop Fault) : Type 0
+pub record IsStopOf {Item Fault : Type 0} (jobs allow place : ℕ) (job : Progress Item Fault)
+    (stop : Stop Fault) : Type 0
   where
     pub fault : job.stop ≡ Some stop.fault
     pub turn : stop.turn ≡ end_turn jobs allow place (length job.left)

@@ -14,8 +14,8 @@ PlaysRounds allow (Some count) before answer after =
 PlaysRounds allow None before answer after =
     (count : ℕ) × PlaysTurns (round_turns (length before) allow count) before answer after
 
--- What comes of it. Where no stop is met each job has given its part and is finished where it is done. Else the stop that
--- is met first is answered, and the turns up to the one that meets it stay given. Want of memory is free to come.
+-- What comes of it. Where no stop is met each job has given its part and is finished where it is done. Else the stop
+-- that is met first is answered, and the turns up to the one that meets it stay given. Want of memory is free to come.
 abbrev pub EndsRounds : {Item Fault : Type 0} → ℕ → Option ℕ → List (Progress Item Fault)
     → Result (Unit {0}) (BoardFault Fault) → List (Progress Item Fault) → Type 0
 EndsRounds allow turns before (Ok _) after =

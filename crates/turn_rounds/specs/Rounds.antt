@@ -1,4 +1,5 @@
--- Turns in rounds: the jobs get their turns in the order of their places, again and again, each with the same allowance.
+-- Turns in rounds: the jobs get their turns in the order of their places, again and again, each with the same
+-- allowance.
 use Rattle.std.specs.Prelude.{ℕ, ◌%◌, nat_lt, Bool, true, ◌||◌, List, [], ◌++◌, length, map, take, drop}
 use Rattle.std.specs.Prelude.{Option, Some, None}
 use Rattle.std.specs.List.{enumerate_from, range_with_len}

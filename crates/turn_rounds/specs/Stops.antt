@@ -40,4 +40,5 @@ is_given None turn = true
 -- the stop that rounds meet first, of all jobs, if one is met in a turn that is given
 abbrev pub first_stop : {Item Fault : Type 0} → ℕ → Option ℕ → List (Progress Item Fault) → Option (Stop Fault)
 first_stop allow turns jobs =
-    option_and_then (λ stop. if is_given turns stop.turn then Some stop else None) (first_from (length jobs) allow 0 jobs)
+    option_and_then (λ stop. if is_given turns stop.turn then Some stop else None)
+    (first_from (length jobs) allow 0 jobs)

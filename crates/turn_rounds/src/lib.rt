@@ -1,5 +1,5 @@
-//! Rounds of turns on a board of jobs: the jobs get their turns in the order of their places, again and again, each with
-//! the same allowance.
+//! Rounds of turns on a board of jobs: the jobs get their turns in the order of their places, again and again, each
+//! with the same allowance.
 //!
 //! What comes of them follows from the lists of the jobs and their stops alone: where no stop is met each job has given
 //! the first items of its list, as many as the sum of its allowances, and else the stop that is met first is answered.
@@ -16,9 +16,9 @@ use job_turns::{Board, BoardFault, Job, TurnEnd};
 #[cfg(test)]
 mod tests;
 
-/// Gives the jobs so many turns in rounds, each with this allowance. Without a number of turns it goes on, round by round,
-/// until each job is finished. It stops at the first fault; the turns before it stay given. Where there is no job it does
-/// nothing.
+/// Gives the jobs so many turns in rounds, each with this allowance. Without a number of turns it goes on, round by
+/// round, until each job is finished. It stops at the first fault; the turns before it stay given. Where there is no
+/// job it does nothing.
 pub fn play_rounds<J: Job>(
     board: &mut Board<J>,
     allow: u64,

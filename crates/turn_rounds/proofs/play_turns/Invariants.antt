@@ -5,4 +5,5 @@ use Rattle.turn_rounds.proofs.play_turns.Given as goal
 -- the turns so far were given
 abbrev pub invariant-loop-number : goal.invariant-loop-number
 invariant-loop-number g l =
-    Gave l.allow l.number (jobs_of g.J.Job.left g.J.Job.stop l.initial.board) (jobs_of g.J.Job.left g.J.Job.stop l.board)
+    let jobs = jobs_of g.J.Job.left g.J.Job.stop in
+    Gave l.allow l.number (jobs l.initial.board) (jobs l.board)

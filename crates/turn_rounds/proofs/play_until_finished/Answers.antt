@@ -29,8 +29,14 @@ loop-place-preserved g c =
           c.match-branch-2.is_open (jobs c.args.board.now) (jobs c.loop-is_open.board) (jobs c.loop-place.board)
           (jobs c.turn.new.self) c.in_ok-turn.field-0 c.requires c.job_count-jobs.ensures c.loop-place-test.true state.1
           c.in_ok-turn.ensures.turn c.in_ok-turn.ensures.kept
-          (λ full. elim c.match-branch-2.branch [ in-Full w ↦ w.is_open-is | in_default w ↦ absurd (w.in_default.not-Full full) ])
-          (λ gave finished. elim c.match-branch-2.branch [ in-Full w ↦ (let is = w.in-Full.is in absurd (cc)) | in_default w ↦ w.is_open-is ]),
+          (λ full. elim c.match-branch-2.branch [
+            | in-Full w ↦ w.is_open-is
+            | in_default w ↦ absurd (w.in_default.not-Full full)
+          ])
+          (λ gave finished. elim c.match-branch-2.branch [
+            | in-Full w ↦ (let is = w.in-Full.is in absurd (cc))
+            | in_default w ↦ w.is_open-is
+          ]),
     )
 
 pub returns-in_err-turn-clause-play : goal.returns-in_err-turn-clause-play

@@ -7,7 +7,8 @@ use Rattle.turn_rounds.proofs.play_until_finished.Given as goal
 abbrev pub invariant-loop-place : goal.invariant-loop-place
 invariant-loop-place g l =
     let jobs = jobs_of g.J.Job.left g.J.Job.stop in
-    (rounds : ℕ) × InRound l.allow rounds l.jobs l.place l.is_open (jobs l.fn.board) (jobs l.initial.board) (jobs l.board)
+    (rounds : ℕ)
+    × InRound l.allow rounds l.jobs l.place l.is_open (jobs l.fn.board) (jobs l.initial.board) (jobs l.board)
 
 -- whole rounds were given, and where no turn of the last one was full all jobs have ended
 abbrev pub invariant-loop-is_open : goal.invariant-loop-is_open
