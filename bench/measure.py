@@ -151,10 +151,15 @@ def lines_that_begin(word):
 
 
 def number_behind(word):
+    """The number behind this word, in the first line that has it."""
+
     def find(path):
         with open(path, "rb") as file:
-            found = re.search(word + rb" (\d+)", file.read())
-        return int(found[1]) if found else None
+            for line in file:
+                found = re.search(word + rb" (\d+)", line)
+                if found:
+                    return int(found[1])
+        return None
 
     return find
 

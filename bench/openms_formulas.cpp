@@ -8,6 +8,7 @@
 #include <cstdlib>
 #include <string>
 #include <vector>
+#include "numbers.hpp"
 
 int main(int argc, char** argv) {
     std::vector<std::string> symbols;
@@ -21,20 +22,23 @@ int main(int argc, char** argv) {
     auto from = Clock::now();
     OpenMS::ims::RealMassDecomposer decomposer(OpenMS::ims::Weights(masses, 1e-5));
     inside += Clock::now() - from;
+    std::string text;
     double mass, half;
     while (std::scanf("%lf %lf", &mass, &half) == 2) {
         from = Clock::now();
         const auto found = decomposer.getDecompositions(mass, half);
         inside += Clock::now() - from;
         for (const auto& counts : found) {
-            std::string text;
             double sum = 0;
             for (size_t i = 0; i < counts.size(); i++) {
-                if (counts[i]) text += symbols[i] + (counts[i] > 1 ? std::to_string(counts[i]) : "");
+                put_count(text, symbols[i], counts[i]);
                 sum += counts[i] * masses[i];
             }
-            std::printf("%s %.12f\n", text.c_str(), sum);
+            text += ' ';
+            put_mass(text, sum);
+            end_line(text);
         }
     }
+    std::fwrite(text.data(), 1, text.size(), stdout);
     std::fprintf(stderr, "%.9f\n", std::chrono::duration<double>(inside).count());
 }
