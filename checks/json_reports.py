@@ -10,7 +10,7 @@ import subprocess
 import sys
 import tempfile
 
-ROOT = os.path.join(os.path.dirname(os.path.abspath(__file__)), "..")
+ROOT = os.path.dirname(os.path.dirname(os.path.abspath(__file__)))
 PROGRAM = os.path.join(ROOT, "crates", "isoform", "out", "isoform")
 EXAMPLES = os.path.join(ROOT, "examples")
 MASSES = {"C": 12, "H": 1.00782503223, "N": 14.00307400443, "O": 15.99491461957, "S": 31.9720711744}

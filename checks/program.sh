@@ -20,7 +20,7 @@ expect() {
         passed=$((passed + 1))
     else
         failed=$((failed + 1))
-        echo "$what: status $got and '$(cat note)' in place of $status and '$note'"
+        echo "$what: status $got and '$(head -c 200 note)' in place of $status and '${note:0:200}'"
     fi
 }
 

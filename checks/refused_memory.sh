@@ -68,7 +68,6 @@ sweep decompose --table ab.csv --mass 10 --da 0.00001 --alphabet AB --limit 1 --
 sweep decompose --table elements.csv --mass 29.038576581241 --da 0.04 --adduct '[M-H2O+H]+' --alphabet CHO
 sweep decompose --table elements.csv --peaks sugar.csv --adduct '[M+Na]+' --ppm 5 --alphabet CHO --rules golden
 sweep decompose --table elements.csv --peaks sugar.csv --adduct '[M+Na]+' --ppm-calc 5 --alphabet 'CHO[13C]0-2' --rules own.rules
-sweep decompose --table elements.csv --mass 600 --da 10 --alphabet CHNOPS
 sweep envelope --table x.csv --formula X2 --coverage 0.75
 sweep envelope --table x.csv --tracer quarter.csv --formula X2 --coverage 0.75
 sweep envelope --table elements.csv --formula CO2 --coverage 0.99
