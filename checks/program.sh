@@ -20,7 +20,7 @@ expect() {
         passed=$((passed + 1))
     else
         failed=$((failed + 1))
-        echo "$what: status $got and '$(cat note)' in place of $status and '$note'"
+        echo "$what: status $got and '$(head -c 200 note)' in place of $status and '${note:0:200}'"
     fi
 }
 
@@ -169,6 +169,130 @@ lines 5458 "a long report"
 expect 8 "isoform: write fault" "a long report to a full device" long_to_full
 expect 8 "isoform: write fault" "a long report to a closed device" long_to_closed
 
+# Standard output closed by its reader before the end of a report, and closed, full and closed early for each command.
+long_to_closed_early() {
+    long | head -n 1 >out
+    return "${PIPESTATUS[0]}"
+}
+expect 8 "isoform: write fault" "a long report whose reader ends" long_to_closed_early
+lines 1 "a long report whose reader ends"
+no_notes() { decompose absent.csv >out 2>&-; }
+expect 7 "" "standard error closed" no_notes
+lines 0 "standard error closed"
+cat >co2.txt <<'END'
+isoform certificate 1
+formula CO2
+coverage 990000000000000000
+size 2
+bound 2
+threshold 7691389404043515
+cover [12C][16O]2
+cover [13C][16O]2
+end
+END
+printf 'mz,intensity\n69.93825,600\n71.9353,400\n' >chlorine.csv
+to_closed_command() { "$root/isoform" "$@" >&-; }
+to_full_command() { "$root/isoform" "$@" >/dev/full; }
+# in_vain WORDS..: a request that has a report, to outputs that don't take it. One that isn't known yet is left out.
+in_vain() {
+    "$root/isoform" "$@" >out 2>note
+    case $? in
+    0) ;;
+    2) return ;;
+    *) expect 0 "" "$*" "$root/isoform" "$@" ;;
+    esac
+    expect 8 "isoform: write fault" "$* to a closed device" to_closed_command "$@"
+    expect 8 "isoform: write fault" "$* to a full device" to_full_command "$@"
+}
+co2=(--table elements.csv --formula CO2 --coverage 0.99)
+chlorine=(rank --table elements.csv --peaks chlorine.csv --adduct '[M]-' --ppm 5 --alphabet Cl --coverage 0.9)
+in_vain decompose --table ab.csv --mass 10 --da 0.00001 --alphabet AB
+in_vain decompose --table ab.csv --mass 10 --da 0.00001 --alphabet AB --json
+in_vain envelope "${co2[@]}"
+in_vain envelope "${co2[@]}" --json
+in_vain envelope "${co2[@]}" --certificate
+in_vain check --table elements.csv --certificate co2.txt
+in_vain "${chlorine[@]}"
+in_vain "${chlorine[@]}" --json
+in_vain generate --table elements.csv --number 1
+
+# Files of exactly their limits, and of one byte more.
+at_limit=16777216
+# fill FILE BYTE SIZE: appends the byte up to the size.
+fill() { head -c $(($3 - $(stat -c %s "$1"))) /dev/zero | tr '\0' "$2" >>"$1"; }
+for kind in ab.csv sugar.csv labelled.csv; do cp "$kind" "full-$kind" && fill "full-$kind" '\n' $at_limit; done
+printf 'senior\n#' >full.rules
+fill full.rules x $at_limit
+for kind in full-ab.csv full-sugar.csv full-labelled.csv full.rules; do { cat "$kind" && echo; } >"over-$kind"; done
+expect 0 "" "a table of exactly its limit" of full-ab.csv
+lines 4 "a table of exactly its limit"
+expect 6 "isoform: limit: file over-full-ab.csv" "a table of one byte more" of over-full-ab.csv
+expect 0 "" "peaks of exactly their limit" peaks full-sugar.csv golden
+lines 3 "peaks of exactly their limit"
+expect 6 "isoform: limit: file over-full-sugar.csv" "peaks of one byte more" peaks over-full-sugar.csv golden
+expect 0 "" "rules of exactly their limit" peaks sugar.csv full.rules
+expect 6 "isoform: limit: file over-full.rules" "rules of one byte more" peaks sugar.csv over-full.rules
+expect 0 "" "a tracer of exactly its limit" traced full-labelled.csv
+expect 6 "isoform: limit: file over-full-labelled.csv" "a tracer of one byte more" traced over-full-labelled.csv
+expect 6 "isoform: limit: file /dev/zero" "a table without end" of /dev/zero
+expect 3 "isoform: table: record 1: header" "a device that is empty" of /dev/null
+rm -f full-* over-full* full.rules
+# Lighter than any atom with the adduct, so that the peaks have no formulas.
+{ echo mz,intensity; for number in $(seq 10000); do printf '23.%05d,1\n' "$number"; done; } >tenthousand.csv
+expect 0 "" "10,000 peaks" peaks tenthousand.csv golden
+lines 10001 "10,000 peaks"
+head -c $at_limit /dev/zero | tr '\0' , >commas.csv
+expect 3 "isoform: table: record 1: header" "a table of commas" of commas.csv
+expect 4 "isoform: peaks: record 1: header" "peaks of commas" peaks commas.csv golden
+expect 5 "isoform: rules: line 1: bad line" "rules of commas" peaks sugar.csv commas.csv
+{ printf 'mz,intensity\n"' && cat commas.csv; } | head -c $at_limit >quoted.csv
+expect 4 "isoform: peaks: record 2: field count" "a quote that isn't closed" peaks quoted.csv golden
+rm -f commas.csv quoted.csv
+for number in $(seq 64); do echo senior; done >rules64.rules
+{ cat rules64.rules && echo senior; } >rules65.rules
+expect 0 "" "64 rules" peaks sugar.csv rules64.rules
+expect 5 "isoform: rules: line 65: too many" "65 rules" peaks sugar.csv rules65.rules
+
+# Words of a hundred thousand bytes.
+nines=$(head -c 100000 /dev/zero | tr '\0' 9)
+expect 5 "isoform: formula: too many atoms" "a count of 100,000 digits" envelope elements.csv "C$nines" 0.5
+expect 2 "isoform: value: --mass" "an m/z of 100,000 digits" \
+    "$root/isoform" decompose --table ab.csv --mass "$nines" --da 0 --alphabet AB
+expect 5 "isoform: alphabet: bad text at 3" "a range of 100,000 digits" symbols "A0-$nines"
+expect 7 "isoform: read fault: $nines" "a file name of 100,000 bytes" of "$nines"
+
+# Certificates, where the program reads them: cut off, at their limits, and with words of their own.
+"$root/isoform" check --table elements.csv --certificate co2.txt >out 2>note
+if [ $? = 0 ]; then
+    check() { timeout 120 "$root/isoform" check --table elements.csv --certificate "$1" >out; }
+    expect 0 "" "a certificate" check co2.txt
+    if [ "$(cat out)" != "accepted size 2 bound 2" ]; then
+        failed=$((failed + 1))
+        echo "a certificate: $(cat out)"
+    fi
+    head -n 8 co2.txt >cut.txt
+    expect 5 "isoform: certificate text: end missing" "a certificate without its end" check cut.txt
+    expect 5 "isoform: certificate text: end missing" "a certificate that is empty" check empty.csv
+    expect 5 "isoform: certificate text: bad line 1" "another file as a certificate" check elements.csv
+    sed 's/^bound 2/bound 3/' co2.txt >bold.txt
+    "$root/isoform" check --table elements.csv --certificate bold.txt >out 2>note
+    if [ $? != 1 ] || [ -s out ] || ! grep -q '^isoform: certificate: bound too high: ' note; then
+        failed=$((failed + 1))
+        echo "a bound that is too high: $(cat note)"
+    fi
+    { head -n 7 co2.txt && head -n 7 co2.txt | tail -n 1 && tail -n 2 co2.txt; } >twice.txt
+    expect 1 "isoform: certificate: out of order: line 8" "a member that stands twice" check twice.txt
+    { head -n 6 co2.txt && yes 'cover [12C][16O]2' | head -n 1048577 && echo end; } >many.txt
+    expect 1 "isoform: certificate: too many members: 1048577" "1,048,577 members" check many.txt
+    # 268,435,456 bytes are the limit.
+    { cat co2.txt && yes '' | head -c $((268435456 - $(stat -c %s co2.txt))); } >full.txt
+    expect 0 "" "a certificate of exactly its limit" check full.txt
+    echo >>full.txt
+    expect 6 "isoform: limit: file full.txt" "a certificate of one byte more" check full.txt
+    rm -f full.txt many.txt
+    expect 7 "isoform: read fault: absent.txt" "a certificate that is not there" check absent.txt
+fi
+
 # An alphabet whose tables find no memory.
 in_little_memory() {
     (ulimit -v 16000
@@ -176,6 +300,8 @@ in_little_memory() {
         --alphabet "$(printf %s C{a..t})")
 }
 expect 9 "isoform: memory" "too little memory" in_little_memory
+
+if ! python3 "$root/checks/json_reports.py"; then failed=$((failed + 1)); fi
 
 echo "program: $passed passed, $failed failed"
 [ "$failed" = 0 ]
