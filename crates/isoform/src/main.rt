@@ -26,6 +26,8 @@ mod envelope_tests;
 #[cfg(test)]
 mod option_tests;
 #[cfg(test)]
+mod rows;
+#[cfg(test)]
 mod tests;
 
 ghost use Rattle.std.specs.Prelude.{◌≡◌, ◌≢◌, ◌⊎◌, drop};
