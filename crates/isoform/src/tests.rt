@@ -1,5 +1,8 @@
 //! Whole runs of `decompose` at one mass: the worked examples, words, files and devices that fail.
+use crate::finish;
 use crate::rows::{AB, ELEMENTS, Failing, LIGHT, Row, check_cuts, check_rows, refused, report, run_over, unread};
+use outside_ports::{MemorySink, StreamSink};
+use std::io::{self, ErrorKind, Write};
 use std::test::Fail;
 
 /// The files of each run, with their names.
@@ -304,5 +307,40 @@ fn a_file_of_its_limit_is_read_and_a_longer_one_is_refused(rt: HostRuntime) -> R
         ),
     ];
     check_rows(&rt, rt.alloc(), files.as_slice(), &rows)?;
+    Ok(())
+}
+
+/// A writer that takes all and can't write it out.
+#[derive(Drop)]
+struct Unflushed;
+
+impl Write for Unflushed {
+    fn write(&mut self, buf: &[u8]) -> io::Result<usize> {
+        Ok(buf.len())
+    }
+
+    fn flush(&mut self) -> io::Result<()> {
+        Err(ErrorKind::BrokenPipe.into())
+    }
+}
+
+#[test]
+fn a_report_that_cant_be_written_out_is_a_write_fault(rt: HostRuntime) -> Result<(), Fail> {
+    // The status of the run, and what is told then.
+    let cases = [
+        (0, b"isoform: write fault\n".as_slice()),
+        (9, b"isoform: write fault\n"),
+        (8, b""),
+    ];
+    for (status, note) in cases {
+        let mut out = StreamSink::new(Unflushed);
+        let mut notes = MemorySink::new(rt.alloc(), 64)?;
+        assert_eq!(rt; finish(status, &mut out, &mut notes), 8);
+        assert!(rt; notes.bytes() == note, "{status}");
+    }
+    let mut out = StreamSink::new(Vec::new(rt.alloc()));
+    let mut notes = MemorySink::new(rt.alloc(), 64)?;
+    assert_eq!(rt; finish(9, &mut out, &mut notes), 9);
+    assert!(rt; notes.bytes().is_empty());
     Ok(())
 }
