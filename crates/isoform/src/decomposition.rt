@@ -22,7 +22,7 @@ use crate::inputs::{ground_of, peaks_of, table_of};
 use crate::output::put_text;
 use crate::refusal::Refusal;
 use candidates::{Candidates, Ground, ResumeFault};
-use command_words::Word;
+use command_words::{MAX_LIMIT, Word};
 use formula_text::{Formula, read_formula};
 use mass_scaling::Tolerance;
 use outside_ports::{Shelf, Sink, Steps};
@@ -33,6 +33,9 @@ use std::sync::ledger::{Blank, Ledger};
 
 /// The most candidates of a peak.
 pub const MAX_CANDIDATES: u64 = 1_048_576;
+
+// A page is never longer than that, so a request for one is refused at no peak.
+const _: () = prove!(MAX_LIMIT == MAX_CANDIDATES);
 
 /// An m/z with which a token is tried: whether it is in the box rests on the alphabet alone.
 const ANY_MZ: u64 = 1;
