@@ -52,9 +52,10 @@ impl<'t> Search<'t> {
         ensures no_steps { HasNoScaledWindow self.old.decomps.masses self.old.decomps.window → steps.new ≡ steps.old }
         ensures pending { self.old.is_pending ≡ true → steps.new ≡ steps.old }
     {
-        if !self.is_pending {
-            self.is_pending = self.decomps.next_into(&mut self.counts, steps);
+        if self.is_pending {
+            return true;
         }
+        self.is_pending = self.decomps.next_into(&mut self.counts, steps);
         self.is_pending
     }
 

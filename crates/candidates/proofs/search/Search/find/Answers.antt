@@ -2,7 +2,7 @@ use Rattle.std.proofs.Common.{true, false, refl, sym, ap, subst, ◌∙◌}
 use Rattle.std.specs.Vec.{with_items}
 use Rattle.candidates.specs.Searches.{Takes, is_formed}
 use Rattle.candidates.proofs.SearchBounds.{call_steps, walked-ended, walked-found, walked-taken}
-use Rattle.candidates.proofs.SearchSteps.{so_far-taken, so_far-passed, finds-some, sure-taken}
+use Rattle.candidates.proofs.SearchSteps.{so_far-taken, so_far-passed, finds-none, finds-some, sure-taken}
 use Rattle.candidates.proofs.search.Search.find.Goals as goal
 
 pub returns-then-self-clause-finds : goal.returns-then-self-clause-finds
@@ -55,18 +55,28 @@ returns-clause-steps g c =
     (call_steps c.lists.self c.take.new.self.counts c.take.result false c.lists.steps c.take.new.steps c.lists-test.false
     c.take.ensures.steps c.take.ensures.no_steps c.take.ensures.pending) c.lists.invariant.walked
 
-pub lists-preserved-so_far : goal.lists-preserved-so_far
-lists-preserved-so_far g c =
-    so_far-passed c.args.premises.now c.args.self.now c.take.new.self _ c.is_formed.ensures.premises
-    (so_far-taken c.args.premises.now c.args.self.now c.lists.self c.take.new.self c.take.result c.lists.invariant.so_far c.take.ensures.takes)
-    (c.take.ensures.takes.is ∙ c.lists-test.true)
-    (ap (is_formed c.args.premises.now) (sym c.counts.ensures) ∙ sym c.is_formed.ensures.formed ∙ c.if-is_formed.false)
-    (sym (with_items c.take.new.self.room c.is_formed.new.room).ok.0 ∙ c.take.new.self.room.ok.0) refl refl refl refl
+pub returns-clause-finds : goal.returns-clause-finds
+returns-clause-finds g c =
+    λ mz admits. finds-none c.args.premises.now mz c.args.self.now c.lists.self c.take.new.self c.lists.invariant.so_far
+    (subst (Takes c.lists.self c.take.new.self) c.lists-test.false c.take.ensures.takes) admits
 
-pub lists-preserved-walked : goal.lists-preserved-walked
-lists-preserved-walked g c =
-    walked-taken c.args.premises.now c.requires.premises c.args.self.now c.lists.self c.take.new.self
-    c.lists.invariant.so_far c.args.steps.now c.lists.steps c.take.new.steps
-    (subst (Takes c.lists.self c.take.new.self) c.lists-test.true c.take.ensures.takes)
-    (call_steps c.lists.self c.take.new.self.counts c.take.result true c.lists.steps c.take.new.steps c.lists-test.true
-    c.take.ensures.steps c.take.ensures.no_steps c.take.ensures.pending) c.lists.invariant.walked
+pub lists-preserved : goal.lists-preserved
+lists-preserved g c =
+    record {
+      so_far =
+          so_far-passed c.args.premises.now c.args.self.now c.take.new.self _ c.is_formed.ensures.premises
+          (so_far-taken c.args.premises.now c.args.self.now c.lists.self c.take.new.self c.take.result
+          c.lists.invariant.so_far c.take.ensures.takes)
+          (c.take.ensures.takes.is ∙ c.lists-test.true)
+          (ap (is_formed c.args.premises.now) (sym c.counts.ensures) ∙ sym c.is_formed.ensures.formed
+          ∙ c.if-is_formed.false)
+          (sym (with_items c.take.new.self.room c.is_formed.new.room).ok.0 ∙ c.take.new.self.room.ok.0) refl refl refl
+          refl;
+      walked =
+          walked-taken c.args.premises.now c.requires.premises c.args.self.now c.lists.self c.take.new.self
+          c.lists.invariant.so_far c.args.steps.now c.lists.steps c.take.new.steps
+          (subst (Takes c.lists.self c.take.new.self) c.lists-test.true c.take.ensures.takes)
+          (call_steps c.lists.self c.take.new.self.counts c.take.result true c.lists.steps c.take.new.steps
+          c.lists-test.true c.take.ensures.steps c.take.ensures.no_steps c.take.ensures.pending)
+          c.lists.invariant.walked;
+    }
