@@ -4,8 +4,16 @@ use Rattle.candidates.specs.PeakFormulas.{formulas_of_peak}
 use Rattle.decompose.specs.Enumeration.{after_given}
 use Rattle.candidates.specs.Searches.{Finds}
 use Rattle.candidates.proofs.CandidateBounds.{candidate-steps, candidate-no_steps}
-use Rattle.candidates.proofs.StandingSteps.{standing-next, given-next}
+use Rattle.candidates.proofs.StandingSteps.{standing-kept, standing-next, given-next}
 use Rattle.candidates.proofs.candidates.Candidates.advance.Goals as goal
+
+pub invariant_of-self : goal.invariant_of-self
+invariant_of-self g c =
+    let is = c.self.invariant.1 in (
+      c.self.invariant.0,
+      standing-kept c.self.inside.premises.now c.self.inside.mz c.self.inside.search c.find.new.self _ c.find.result is
+          (c.find.ensures.finds c.self.inside.mz is.admits),
+    )
 
 pub invariant_of-self-2 : goal.invariant_of-self-2
 invariant_of-self-2 g c =
