@@ -5,7 +5,7 @@ root=$(cd "$(dirname "$0")/.." && pwd)
 place=$(mktemp -d)
 trap 'rm -rf "$place"' EXIT
 cd "$place" || exit 1
-cp "$root/examples/ab.csv" "$root/examples/elements.csv" .
+cp "$root/examples/ab.csv" "$root/examples/elements.csv" "$root/examples/even.csv" .
 mkdir folder
 passed=0
 failed=0
@@ -82,6 +82,15 @@ expect 3 "isoform: table: record 3: symbol" "a field of a million bytes" of wide
 symbols() { "$root/isoform" decompose --table elements120.csv --mass 10 --da 0 --alphabet "$1" >out; }
 expect 0 "" "20 symbols" symbols "$(printf %s C{a..t})"
 expect 5 "isoform: alphabet: too many" "21 symbols" symbols "$(printf %s C{a..u})"
+
+# Formulas of a peak: none among more than 10^12 count lists that come near, and more than there may be.
+formulas() { timeout 60 "$root/isoform" decompose --table "$1" --mass "$2" --da "$3" --alphabet "$4" >out; }
+expect 0 "" "no formula among many" formulas even.csv 10000.5 0 ABCDEFGH
+if [ "$(cat out)" != $'decompose 1\npeak 1 10000.500000000000' ]; then
+    failed=$((failed + 1))
+    echo "no formula among many: $(cat out)"
+fi
+expect 6 "isoform: limit: candidates of peak 1" "more than 1,048,576 formulas" formulas elements.csv 600 10 CHNOPS
 
 # Envelopes: as many isotopologues as there may be, and more.
 envelope() { timeout 60 "$root/isoform" envelope --table "$1" --formula "$2" --coverage "$3" >out; }

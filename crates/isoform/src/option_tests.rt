@@ -3,8 +3,12 @@
 use crate::rows::{AB, ELEMENTS, EQUAL, LIGHT, check_cuts, check_rows, refused, report, unread};
 use std::test::Fail;
 
+/// Rules that only formulas of one symbol meet.
+const ONE_SYMBOL: &[u8] =
+    b"ratio A D 0 0\nratio B D 0 0\nratio C D 0 0\nratio A C 0 0\nratio B C 0 0\nratio A B 0 0\n";
+
 /// The files of each run, with their names.
-const FILES: [(&str, &[u8]); 18] = [
+const FILES: [(&str, &[u8]); 19] = [
     ("elements.csv", ELEMENTS),
     ("ab.csv", AB),
     ("equal.csv", EQUAL),
@@ -19,6 +23,7 @@ const FILES: [(&str, &[u8]); 18] = [
     ("c.txt", b"group C 0 6\n"),
     ("own.txt", b"# own\n\nratio H C 3 1\n"),
     ("odd.txt", b"seniors\n"),
+    ("few.txt", ONE_SYMBOL),
     (
         "tracer.csv",
         b"symbol,number,abundance12\nX,10,0.25\nX,11,0.75\n",
@@ -215,6 +220,16 @@ formula CD199 100.000000000000 100.000000000000 0
             b"decompose 1\npeak 1 100.000000000000
 formula CA199 100.000000000000 100.000000000000 0
 formula A199B 100.000000000000 100.000000000000 0
+formula A200 100.000000000000 100.000000000000 0
+",
+        ),
+        // The limit counts what meets the rules, and not all that is within tolerance.
+        report(
+            "decompose --table light.csv --mass 100 --da 0 --alphabet ABCD --rules few.txt",
+            b"decompose 1\npeak 1 100.000000000000
+formula D200 100.000000000000 100.000000000000 0
+formula C200 100.000000000000 100.000000000000 0
+formula B200 100.000000000000 100.000000000000 0
 formula A200 100.000000000000 100.000000000000 0
 ",
         ),
