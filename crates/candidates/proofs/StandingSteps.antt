@@ -1,6 +1,6 @@
 -- Where an enumeration of candidates stands, from its start on.
 use Rattle.std.proofs.Common.{Vec, Global, ◌≡◌, ℕ, ◌≤◌, Bool, true, false, cond, List, [], ◌∷◌, ◌++◌, length, map, filter, refl, sym, ap, ◌∙◌, subst}
-use Rattle.std.specs.Prelude.{Option, Some, None, IfSome, Result, Ok, is_some, ◌&&◌}
+use Rattle.std.specs.Prelude.{Option, Some, None, IfSome, Result, Ok, is_some, ◌&&◌, ◌↔◌}
 use Rattle.std.proofs.lemmas.Bool.{false≢true}
 use Rattle.decompose.specs.declared.limits.Limit.{Limit}
 use Rattle.decompose.specs.CountLists.{IsInBox, box_of, comes_after, follows}
@@ -14,7 +14,7 @@ use Rattle.adducts.proofs.IonCounts.{formula-is_sum}
 use Rattle.candidates.specs.declared.search.Search.{Search}
 use Rattle.candidates.specs.Grounds.{GroundValue, IsGround}
 use Rattle.candidates.specs.PeakFormulas.{counts_of, counts_in, formula_at, limits_of, candidate_if, is_candidate, formulas_of_peak, masses_of}
-use Rattle.candidates.specs.Enumeration.{CandidateEnumeration, formulas_left}
+use Rattle.candidates.specs.Enumeration.{CandidateEnumeration, counts_left, formulas_left}
 use Rattle.candidates.specs.Searches.{IsSearch, IsSure, GoesOn, Finds, Outcome, Covers, Admits, todo, pending, candidates_in}
 use Rattle.candidates.specs.StepBounds.{counts_given}
 use Rattle.candidates.specs.Standings.{IsSearched, IsToken, IsStanding}
@@ -222,6 +222,24 @@ given-formula premises mz old new None finds same =
     absurd (false≢true (ap is_some same ∙ candidate-formula premises mz new.counts finds.outcome.1))
 given-formula premises mz old new (Some f) finds same =
     ap Some (formula-is_sum (counts_of premises.alphabet new.counts) f (sym same)).0
+
+-- one is given, so the end isn't reached
+pub given-not_none : (premises : GroundValue) (mz : ℕ) (old new : Search) (o : Option (List (Item × ℕ))) {A : Type 0}
+    → Finds premises mz old new true → o ≡ formula_of (counts_of premises.alphabet new.counts) → o ≡ None → A
+given-not_none premises mz old new o finds made none =
+    absurd (false≢true (sym (ap is_some none)
+    ∙ ap is_some (given-formula premises mz old new o finds made)))
+
+pub given-not_end : (premises : GroundValue) (mz : ℕ) (old new : Search) (given : Option (List ℕ))
+    (o : Option (List (Item × ℕ))) (before : CandidateEnumeration) → IsStanding premises mz old given
+    → Finds premises mz old new true → o ≡ formula_of (counts_of premises.alphabet new.counts)
+    → before ≡ record { premises = premises; mz = mz; given = given } → (o ≡ None) ↔ (counts_left before ≡ [])
+given-not_end premises mz old new given o before is finds made of_before =
+    let more : counts_left before ≡ new.counts ∷ after_given (formulas_of_peak premises mz) (Some new.counts) =
+    ap counts_left of_before ∙ given-next premises mz old new given is finds in (
+      given-not_none premises mz old new o finds made,
+      λ e. absurd (let both : new.counts ∷ after_given (formulas_of_peak premises mz) (Some new.counts) ≡ [] = sym more ∙ e in cc),
+    )
 
 -- what is left, as formulas
 pub given-formulas : (premises : GroundValue) (mz : ℕ) (old new : Search) (given : Option (List ℕ)) (o : Option (List (Item × ℕ))) (list : List ℕ) (before : CandidateEnumeration) → IsStanding premises mz old given → Finds premises mz old new true → o ≡ formula_of (counts_of premises.alphabet new.counts) → list ≡ new.counts → before ≡ record { premises = premises; mz = mz; given = given } → IfSome o (λ f. formulas_left before ≡ f ∷ formulas_left (record { premises = premises; mz = mz; given = Some list }))

@@ -1,4 +1,5 @@
-use Rattle.std.proofs.Common.{Some, None, cond, refl, sym, ap, subst, ◌∙◌}
+use Rattle.std.specs.declared.alloc.AllocError.{AllocError}
+use Rattle.std.proofs.Common.{Ok, Some, None, cond, refl, sym, ap, subst, ◌∙◌}
 use Rattle.std.proofs.lemmas.Result.{err_from_is_err_and}
 use Rattle.formula_text.specs.Formulas.{formula_of}
 use Rattle.candidates.specs.Enumeration.{CandidateEnumeration}
@@ -6,8 +7,32 @@ use Rattle.candidates.specs.PeakFormulas.{counts_of}
 use Rattle.candidates.specs.StepBounds.{counts_given}
 use Rattle.candidates.proofs.CandidateBounds.{bounded-end, candidate-steps, candidate-no_steps}
 use Rattle.candidates.specs.Searches.{Finds}
-use Rattle.candidates.proofs.StandingSteps.{standing-next, given-formulas, given-token, given-upto}
+use Rattle.candidates.proofs.StandingSteps.{standing-kept, standing-next, given-formulas, given-not_end, given-not_none, given-token, given-upto}
 use Rattle.candidates.proofs.candidates.Candidates.next.Goals as goal
+
+pub invariant_of-self : goal.invariant_of-self
+invariant_of-self g c =
+    let is = c.self.invariant.1 in (
+      c.self.invariant.0,
+      standing-kept c.self.inside.premises.now c.self.inside.mz c.self.inside.search c.find.new.self _ c.find.result is
+          (c.find.ensures.finds c.self.inside.mz is.admits),
+    )
+
+pub invariant_of-self-in_err-parts : goal.invariant_of-self-in_err-parts
+invariant_of-self-in_err-parts g c =
+    let is = c.self.invariant.1 in (
+      c.self.invariant.0,
+      standing-kept c.self.inside.premises.now c.self.inside.mz c.self.inside.search c.find.new.self _ c.find.result is
+          (c.find.ensures.finds c.self.inside.mz is.admits),
+    )
+
+pub invariant_of-self-in_err-found : goal.invariant_of-self-in_err-found
+invariant_of-self-in_err-found g c =
+    let is = c.self.invariant.1 in (
+      c.self.invariant.0,
+      standing-kept c.self.inside.premises.now c.self.inside.mz c.self.inside.search c.find.new.self _ c.find.result is
+          (c.find.ensures.finds c.self.inside.mz is.admits),
+    )
 
 pub invariant_of-self-2 : goal.invariant_of-self-2
 invariant_of-self-2 g c =
@@ -30,6 +55,31 @@ returns-clause-next g c =
     ∙ ap (λ alphabet. counts_of alphabet c.find.new.self.counts) c.alphabet.ensures.alphabet))
     c.give.ensures.given (sym c.self.view_is)
 
+pub returns-clause-end : goal.returns-clause-end
+returns-clause-end g c =
+    let is = c.self.invariant.1 in
+    let premises = c.self.inside.premises.now in
+    let mz = c.self.inside.mz in
+    given-not_end premises mz c.self.inside.search c.find.new.self _ c.in_ok-found.found c.args.self.now is
+    (subst (Finds premises mz c.self.inside.search c.find.new.self) c.if-not-find.false (c.find.ensures.finds mz is.admits))
+    (c.in_ok-found.ensures.sum
+    ∙ ap formula_of (c.deref.ensures.value ∙ c.in_ok-parts.ensures
+    ∙ ap (λ counts. counts_of c.alphabet.result.now counts) c.counts-counts.ensures
+    ∙ ap (λ alphabet. counts_of alphabet c.find.new.self.counts) c.alphabet.ensures.alphabet))
+    (sym c.self.view_is)
+
+pub returns-clause-at_end : goal.returns-clause-at_end
+returns-clause-at_end g c =
+    let is = c.self.invariant.1 in
+    let premises = c.self.inside.premises.now in
+    let mz = c.self.inside.mz in
+    given-not_none premises mz c.self.inside.search c.find.new.self c.in_ok-found.found
+    (subst (Finds premises mz c.self.inside.search c.find.new.self) c.if-not-find.false (c.find.ensures.finds mz is.admits))
+    (c.in_ok-found.ensures.sum
+    ∙ ap formula_of (c.deref.ensures.value ∙ c.in_ok-parts.ensures
+    ∙ ap (λ counts. counts_of c.alphabet.result.now counts) c.counts-counts.ensures
+    ∙ ap (λ alphabet. counts_of alphabet c.find.new.self.counts) c.alphabet.ensures.alphabet))
+
 pub returns-clause-given : goal.returns-clause-given
 returns-clause-given g c =
     let is = c.self.invariant.1 in
@@ -51,7 +101,8 @@ returns-clause-steps g c =
     let mz = c.self.inside.mz in
     candidate-steps premises mz c.self.inside.search _ _ c.args.steps.now c.find.new.steps is
     (cond c.find.result (Some c.find.new.self.counts) None)
-    (given-upto premises mz c.self.inside.search c.find.new.self c.in_ok-found.found c.args.self.now _ is.is_ground
+    (given-upto {E = AllocError} premises mz c.self.inside.search c.find.new.self c.in_ok-found.found c.args.self.now
+    (Ok c.in_ok-found.found) is.is_ground
     (subst (Finds premises mz c.self.inside.search c.find.new.self) c.if-not-find.false (c.find.ensures.finds mz is.admits))
     (c.in_ok-found.ensures.sum
     ∙ ap formula_of (c.deref.ensures.value ∙ c.in_ok-parts.ensures
@@ -82,7 +133,7 @@ returns-then-not-find-clause-no_steps g c =
 
 pub returns-in_err-parts-clause-steps : goal.returns-in_err-parts-clause-steps
 returns-in_err-parts-clause-steps g c =
-    let p = err_from_is_err_and c.from_residual-in_err-parts.result c.from_residual-in_err-parts.ensures.1 in
+    let p = err_from_is_err_and c.from_residual.result c.from_residual.ensures.1 in
     candidate-steps c.self.inside.premises.now c.self.inside.mz c.self.inside.search _ _
     c.args.steps.now c.find.new.steps c.self.invariant.1 None
     (ap (counts_given c.args.self.now.premises.alphabet) p.1)
