@@ -171,8 +171,10 @@ expect 6 "isoform: limit: file long.csv" "a tracer that is too long" traced long
 long_name=$(printf './%.0s' {1..2000})long.csv
 expect 6 "isoform: limit: file $long_name" "a file of a long name that is too long" of "$long_name"
 { cat z.csv && for name in {A..S}a; do echo "$name,1,10,1,1"; done; } >z20.csv
-expect 6 "isoform: limit: layer of $(printf %s {A..S}a)Z100" "a layer of an ion of 20 elements" \
-    envelope z20.csv "Z100$(printf %s {A..S}a)" 0.5
+of_20_elements() {
+    timeout 300 "$root/isoform" envelope --table z20.csv --formula "Z100$(printf %s {A..S}a)" --coverage 0.5 >out
+}
+expect 6 "isoform: limit: layer of $(printf %s {A..S}a)Z100" "a layer of an ion of 20 elements" of_20_elements
 
 # Reports longer than the output's buffer.
 printf "${head}A,1,0.5,1,1\nB,1,0.5,1,1\nC,1,0.5,1,1\nD,1,0.5,1,1\n" >light.csv
