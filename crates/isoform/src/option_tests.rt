@@ -60,7 +60,7 @@ const FILES: [(&str, &[u8]); 18] = [
 
 /// The words of a run, and what it must answer.
 #[derive(Clone, Copy)]
-struct Row {
+pub struct Row {
     words: &'static str,
     status: u8,
     out: &'static [u8],
@@ -68,7 +68,7 @@ struct Row {
 }
 
 /// A row that is answered by a report.
-fn report(words: &'static str, out: &'static [u8]) -> Row {
+pub fn report(words: &'static str, out: &'static [u8]) -> Row {
     Row {
         words,
         status: 0,
@@ -78,7 +78,7 @@ fn report(words: &'static str, out: &'static [u8]) -> Row {
 }
 
 /// A row that is refused.
-fn refused(words: &'static str, status: u8, note: &'static [u8]) -> Row {
+pub fn refused(words: &'static str, status: u8, note: &'static [u8]) -> Row {
     Row {
         words,
         status,
@@ -88,7 +88,7 @@ fn refused(words: &'static str, status: u8, note: &'static [u8]) -> Row {
 }
 
 /// The words of a text, which stand between blanks.
-fn words_of(alloc: Global, text: &str) -> Result<Vec<String>, AllocError> {
+pub fn words_of(alloc: Global, text: &str) -> Result<Vec<String>, AllocError> {
     let mut words = Vec::new(alloc);
     for word in text.split(' ') {
         words.push(String::from_str(alloc, word)?)?;
@@ -96,18 +96,33 @@ fn words_of(alloc: Global, text: &str) -> Result<Vec<String>, AllocError> {
     Ok(words)
 }
 
-fn shelf_of_files(alloc: Global) -> Result<MemoryShelf, AllocError> {
+/// A shelf of files with these names.
+pub fn shelf_of(alloc: Global, files: &[(&str, &[u8])]) -> Result<MemoryShelf, AllocError> {
     let mut shelf = MemoryShelf::new(alloc);
-    for (name, bytes) in FILES {
-        shelf.add(String::from_str(alloc, name)?, bytes.to_vec(alloc)?)?;
+    for (name, bytes) in files {
+        shelf.add(String::from_str(alloc, *name)?, bytes.to_vec(alloc)?)?;
     }
     Ok(shelf)
 }
 
+fn shelf_of_files(alloc: Global) -> Result<MemoryShelf, AllocError> {
+    shelf_of(alloc, FILES.as_slice())
+}
+
 fn check_rows(rt: &impl Abort, alloc: Global, rows: &[Row]) -> Result<(), AllocError> {
+    check_rows_over(rt, alloc, FILES.as_slice(), rows)
+}
+
+/// Runs each row over these files.
+pub fn check_rows_over(
+    rt: &impl Abort,
+    alloc: Global,
+    files: &[(&str, &[u8])],
+    rows: &[Row],
+) -> Result<(), AllocError> {
     for row in rows {
         let words = words_of(alloc, row.words)?;
-        let mut shelf = shelf_of_files(alloc)?;
+        let mut shelf = shelf_of(alloc, files)?;
         let mut out = MemorySink::new(alloc, 4096)?;
         let mut notes = MemorySink::new(alloc, 4096)?;
         let status = run(alloc, &words, &mut shelf, &mut out, &mut notes);
