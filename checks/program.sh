@@ -182,6 +182,8 @@ accepted "size 2 bound 1" "a certificate from elsewhere"
 expect 1 "isoform: certificate: not of formula: line 7" "a certificate with a tracer" check co2.txt --tracer labelled.csv
 grep -v '13C' co2.txt >less.txt
 expect 1 "isoform: certificate: open boundary: line 7: [13C][16O]2: 10648061182430000" "a line less" check less.txt
+{ head -n 6 co2.txt; yes 'cover [12C][16O]2' | head -n 1048577; echo end; } >many.txt
+expect 1 "isoform: certificate: too many members: 1048577" "one isotopologue more than may be" check many.txt
 expect 5 "isoform: certificate text: bad line 1" "a table as a certificate" check elements.csv
 expect 7 "isoform: read fault: folder" "a folder as a certificate" check folder
 truncate -s 268435456 whole.txt

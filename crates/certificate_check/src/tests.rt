@@ -122,19 +122,3 @@ end
     );
     Ok(())
 }
-
-// Lines are counted before any is read.
-#[test]
-fn one_line_more_than_may_be_is_too_many(rt: HostRuntime) -> Result<(), Fail> {
-    let alloc = rt.alloc();
-    let mut text = format!(in alloc; "{HEAD}{NUMBERS}")?.into_bytes();
-    for _ in 0..1_048_577u32 {
-        text.extend_from_slice(b"cover [10X][11X]\n")?;
-    }
-    text.extend_from_slice(b"end\n")?;
-    assert_eq!(rt;
-        judged(alloc, &text)?.as_slice(),
-        b"too many members: 1048577".as_slice()
-    );
-    Ok(())
-}
