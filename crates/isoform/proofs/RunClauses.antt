@@ -1,5 +1,6 @@
 -- What the status of a run tells, ending by ending.
-use Rattle.std.proofs.Common.{◌≡◌, ◌≢◌, ℕ, ◌+◌, ◌≤◌, List, [], ◌∷◌, ◌++◌, take, refl, sym, ap, ◌∙◌, subst, arith, inl, inr, lit≤}
+use Rattle.std.proofs.Common.{◌≡◌, ◌≢◌, ℕ, ◌+◌, ◌≤◌, List, [], ◌∷◌, ◌++◌, take, refl, sym, ap, ◌∙◌, subst, arith}
+use Rattle.std.proofs.Common.{inl, inr, lit≤}
 use Rattle.std.specs.Prelude.{Option, Some, Result, Ok, Err, IsErr, IfErr, IfSome, IsOkAnd, slice_get, ◌⊎◌}
 use Rattle.std.proofs.lemmas.List.{append_assoc, take_more}
 use Rattle.std.proofs.lemmas.Option.{get_or_from_slice_get, slice_get_within}
@@ -11,13 +12,14 @@ use Rattle.isoform.specs.Answer.{Outcome}
 use Rattle.isoform.specs.Asked.{Asked, Names}
 use Rattle.isoform.specs.Claims.{Holds}
 use Rattle.isoform.specs.Notes.{note_of, status_of, status_of_fault}
-use Rattle.isoform.specs.Outside.{EndsAs, IsPut, Outside, ReceivesAll, ReceivesSome, ReceivesSomeOf, RefusesWords, Shows, TellsLastName, TellsNote, status_of_result}
+use Rattle.isoform.specs.Outside.{Ending, EndsAs, IsPut, Outside, ReceivesAll, ReceivesSome, ReceivesSomeOf}
+use Rattle.isoform.specs.Outside.{RefusesWords, Shows, TellsLastName, TellsNote, status_of_result}
 use Rattle.isoform.specs.Refusals.{of_words_fault}
 use Rattle.isoform.specs.declared.input_fault.InputFault.{InputFault}
 use Rattle.isoform.specs.declared.input_fault.InputFault.TheVariants.{FileLimit, Table, Tracer, Peaks, Alphabet, Adduct, Rules, After, NotInBox, Formula, NoIon, CandidateLimit, Layer, Certificate, Rejected, CertificateLimit}
 use Rattle.isoform.specs.declared.refusal.Refusal.{Refusal}
 use Rattle.isoform.specs.declared.refusal.Refusal.TheVariants.{Words, Input, ReadFault, WriteFault, Memory}
-use Rattle.isoform.proofs.PartLaws.{if_some_map}
+use Rattle.isoform.proofs.PartLaws.{all_names, if_some_map}
 
 -- the status of what was given is 1, or from 3 to 6
 pub status_range : (fault : InputFault) →
@@ -82,6 +84,40 @@ request_served (Ok request) status refuses = tt
 request_served (Err fault) status (inl same) = cc
 request_served (Err fault) status (inr memory) = cc
 
+-- ---- the names asked
+
+names_up_to : (answer : Asked Outcome) (before after : Outside) (ending : Ending) (status : ℕ) →
+    EndsAs answer before after ending → status ≡ status_of_result ending → status ≢ 7 → status ≢ 9 →
+    after.asked ≡ before.asked ++ answer.names
+names_up_to answer before after (Ok done) status ends is seven nine = ends.1
+names_up_to answer before after (Err (Words fault)) status ends is seven nine = ends.1
+names_up_to answer before after (Err (Input fault)) status ends is seven nine = ends.1
+names_up_to answer before after (Err (ReadFault name)) status ends is seven nine = absurd (seven is)
+names_up_to answer before after (Err WriteFault) status ends is seven nine = ends.1
+names_up_to answer before after (Err Memory) status ends is seven nine = absurd (nine is)
+
+pub asked_up_to : (held : Option Files) (answer : Files → Asked Outcome) (before after : Outside) (ending : Ending)
+    (status : ℕ) → IfSome held (λ files. EndsAs (answer files) before after ending) →
+    status ≡ status_of_result ending → status ≢ 7 → status ≢ 9 →
+    IfSome held (λ files. after.asked ≡ before.asked ++ (answer files).names)
+asked_up_to held answer before after ending status ends is seven nine =
+    if_some_map held _ _ (λ files end. names_up_to (answer files) before after ending status end is seven nine) ends
+
+names_within : (answer : Asked Outcome) (before after : Outside) (ending : Ending) →
+    EndsAs answer before after ending → (asked : ℕ) × (after.asked ≡ before.asked ++ take asked answer.names)
+names_within answer before after (Ok done) ends = all_names answer.names before.asked after.asked ends.1
+names_within answer before after (Err (Words fault)) ends = all_names answer.names before.asked after.asked ends.1
+names_within answer before after (Err (Input fault)) ends = all_names answer.names before.asked after.asked ends.1
+names_within answer before after (Err (ReadFault name)) ends = ends
+names_within answer before after (Err WriteFault) ends = all_names answer.names before.asked after.asked ends.1
+names_within answer before after (Err Memory) ends = ends.1
+
+pub asked_within : (held : Option Files) (answer : Files → Asked Outcome) (before after : Outside) (ending : Ending) →
+    IfSome held (λ files. EndsAs (answer files) before after ending) →
+    IfSome held (λ files. (asked : ℕ) × (after.asked ≡ before.asked ++ take asked (answer files).names))
+asked_within held answer before after ending ends =
+    if_some_map held _ _ (λ files end. names_within (answer files) before after ending end) ends
+
 -- ---- what was received
 
 some_of : (result : Result Outcome Refusal) (before after : Option (List ℕ)) →
@@ -125,8 +161,8 @@ noted_with answer before after (ReadFault name) status nb fb na fa ends put is s
 noted_with answer before after WriteFault status nb fb na fa ends put is seven eight nine = absurd (eight is)
 noted_with answer before after Memory status nb fb na fa ends put is seven eight nine = absurd (nine is)
 
-pub noted : (held : Option Files) (answer : Files → Asked Outcome) (before after : Outside) (told : Refusal) (status : ℕ)
-    (nb : Option (List ℕ)) (fb : ℕ) (na : Option (List ℕ)) (fa : ℕ) →
+pub noted : (held : Option Files) (answer : Files → Asked Outcome) (before after : Outside) (told : Refusal)
+    (status : ℕ) (nb : Option (List ℕ)) (fb : ℕ) (na : Option (List ℕ)) (fa : ℕ) →
     IfSome held (λ files. EndsAs (answer files) before after (Err told)) →
     IsPut (note_of told) nb fb na fa → status ≡ status_of told → status ≢ 7 → status ≢ 8 → status ≢ 9 →
     IfSome held (λ files. TellsNote nb fb na fa (answer files).result)

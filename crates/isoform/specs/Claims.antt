@@ -6,11 +6,12 @@ use Rattle.decompose.specs.Enumeration.{lists_after}
 use Rattle.element_table.specs.Elements.{TableEntries}
 use Rattle.written_items.specs.declared.item.Item.{Item}
 use Rattle.formula_text.specs.Formulas.{formula_of}
+use Rattle.formula_text.specs.PrintedText.{printed_text}
 use Rattle.adducts.specs.Adducts.{divisor_of}
 use Rattle.adducts.specs.Ions.{ion_of, mass_of_ion}
 use Rattle.golden_rules.specs.MeetsRules.{MeetsAll}
 use Rattle.candidates.specs.Grounds.{GroundValue}
-use Rattle.candidates.specs.PeakFormulas.{counts_of, formulas_of_peak, limits_of}
+use Rattle.candidates.specs.PeakFormulas.{counts_of, formula_at, formulas_of_peak, limits_of}
 use Rattle.multinomial_bounds.specs.Bounds.{IsEnclosure}
 use Rattle.multinomial_bounds.specs.Isotopologue.{isotopologue_weight, all_weight}
 use Rattle.isotopologue_sets.specs.Covers.{IsCover}
@@ -26,6 +27,7 @@ use Rattle.isoform.specs.Answer.{Outcome, Formulas, Cover, Certified, Checked}
 use Rattle.isoform.specs.PageFormulas.{asked_counts, token_counts}
 use Rattle.isoform.specs.Queries.{FormulaQuery}
 use Rattle.isoform.specs.Reports.{asked_cover}
+use Rattle.isoform.specs.Steps.{token_step}
 
 -- A count list of the alphabet's box is of a peak: it is that of a formula within the limits, which has an ion within
 -- the limits, the ion's exact mass is within tolerance of the m/z, and the formula meets the rules.
@@ -67,11 +69,20 @@ pub record IsPageOf (lists page : List (List ℕ)) (token : Option (List ℕ)) (
   pub ends : EndsWithin limit page behind
   pub next : (first : List (List ℕ)) (last : List ℕ) → page ≡ first ++ last ∷ [] → lists_after lists last ≡ behind
 
--- the formulas that are printed for a peak: the page asked for, of all formulas of the peak
+-- The printed text of the formula of a count list, given as a token, is read as just that formula, whose counts are the
+-- list: the page that it asks for begins behind it.
+pub record IsTokenOf (premises : GroundValue) (counts : List ℕ) : Type 0 where
+  pub read : token_step premises (Some (printed_text (formula_at premises.alphabet counts)))
+      ≡ Ok (Some (formula_at premises.alphabet counts))
+  pub place : token_counts premises (Some (formula_at premises.alphabet counts)) ≡ Some counts
+
+-- the formulas that are printed for a peak: the page asked for, of all formulas of the peak; the text of each, and so of
+-- the last, is a token that asks for the page behind it
 pub record PrintsPeak (query : FormulaQuery) (mz : ℕ) : Type 0 where
   pub all : AreAllOfPeak query.premises mz (formulas_of_peak query.premises mz)
   pub page : IsPageOf (formulas_of_peak query.premises mz) (asked_counts query mz)
       (token_counts query.premises query.after) query.limit
+  pub tokens : All (IsTokenOf query.premises) (asked_counts query mz)
 
 -- What a cover of a formula claims, by the exact weights of its isotopologues: its first `size` members, which are
 -- printed, reach the coverage; no set of distinct isotopologues with fewer members than its bound does; its first

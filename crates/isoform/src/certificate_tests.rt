@@ -1,5 +1,5 @@
 //! Whole runs that write and check certificates: worked ones, the same with a line changed, and devices that fail.
-use crate::option_tests::{check_rows_over, refused, report, shelf_of, words_of};
+use crate::rows::{check_rows, refused, report, shelf_of, words_of};
 use crate::run;
 use outside_ports::MemorySink;
 use std::test::Fail;
@@ -146,7 +146,7 @@ fn certificates_are_written_and_accepted(rt: HostRuntime) -> Result<(), Fail> {
             b"accepted size 2 bound 2\n",
         ),
     ];
-    check_rows_over(&rt, rt.alloc(), FILES.as_slice(), &rows)?;
+    check_rows(&rt, rt.alloc(), FILES.as_slice(), &rows)?;
     Ok(())
 }
 
@@ -180,7 +180,7 @@ fn certificates_that_are_not_accepted(rt: HostRuntime) -> Result<(), Fail> {
             b"isoform: certificate: out of order: line 8\n",
         ),
     ];
-    check_rows_over(&rt, rt.alloc(), FILES.as_slice(), &rows)?;
+    check_rows(&rt, rt.alloc(), FILES.as_slice(), &rows)?;
     Ok(())
 }
 
@@ -235,7 +235,7 @@ fn certificates_that_are_not_read(rt: HostRuntime) -> Result<(), Fail> {
             b"isoform: words\n",
         ),
     ];
-    check_rows_over(&rt, rt.alloc(), FILES.as_slice(), &rows)?;
+    check_rows(&rt, rt.alloc(), FILES.as_slice(), &rows)?;
     Ok(())
 }
 

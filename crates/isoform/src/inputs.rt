@@ -7,6 +7,7 @@ ghost use Rattle.command_words.specs.Requests.{IsWithin};
 ghost use Rattle.command_words.specs.declared.options.TheConstants.{MIN_MZ};
 ghost use Rattle.alphabet_text.specs.Alphabets.{IsEntryOf};
 ghost use Rattle.formula_text.specs.Masses.{HasItems};
+ghost use Rattle.candidates.specs.Grounds.{IsGround};
 ghost use Rattle.isoform.specs.Asked.{asks_file};
 ghost use Rattle.isoform.specs.Inputs.{IsMz};
 ghost use Rattle.isoform.specs.Outside.{IsPart, shelved};
@@ -215,10 +216,11 @@ pub fn ground_of<H: Shelf>(
     shelf: &mut H,
 ) -> Result<Ground, Refusal>
     requires { IsTolerance tolerance }
-    ensures { IsPart (λ premises. premises) (rules_names rules.now)
+    ensures part { IsPart (λ premises. premises) (rules_names rules.now)
         (ground_step table tolerance alphabet.now adduct.now rules.now)
         (shelved (H.held shelf.old) (H.asked shelf.old) (H.faults shelf.old))
         (shelved (H.held shelf.new) (H.asked shelf.new) (H.faults shelf.new)) result }
+    ensures premises { IfOk result IsGround }
 {
     let alphabet = alphabet_in(alloc, &table, alphabet)?;
     let adduct = adduct_in(alloc, &table, adduct)?;

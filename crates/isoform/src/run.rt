@@ -283,10 +283,18 @@ pub fn run<H: Shelf, O: Sink, M: Sink>(
     ensures asked { (asked : ℕ) × (H.asked shelf.new
         ≡ H.asked shelf.old ++ take asked (file_names (map string_bytes words.now.items))) }
 
+    // None of them stands behind the refusal that is answered: they are the names of the answer, or some first ones of
+    // these where a file couldn't be read or memory ran out.
+    ensures asked_up_to { result ≢ 7 → result ≢ 9 → IfSome (H.held shelf.old) (λ files.
+        H.asked shelf.new ≡ H.asked shelf.old ++ (answer (map string_bytes words.now.items) files).names) }
+    ensures asked_within { IfSome (H.held shelf.old) (λ files. (asked : ℕ) × (H.asked shelf.new
+        ≡ H.asked shelf.old ++ take asked (answer (map string_bytes words.now.items) files).names)) }
+
     // With status 8 or 9 some first bytes of the report were received, and none where there is no report; with a
     // status other than 0, 8 and 9 nothing was.
     ensures some_received { (result ≡ 8) ⊎ (result ≡ 9) → IfSome (H.held shelf.old) (λ files.
-        ReceivesSomeOf (answer (map string_bytes words.now.items) files).result (O.written out.old) (O.written out.new)) }
+        ReceivesSomeOf (answer (map string_bytes words.now.items) files).result
+        (O.written out.old) (O.written out.new)) }
     ensures nothing { result ≢ 0 → result ≢ 8 → result ≢ 9 → O.written out.new ≡ O.written out.old }
 
     // The notes receive nothing with status 0, that of the answer's refusal with the status of the answer, the last
