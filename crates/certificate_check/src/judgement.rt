@@ -1,7 +1,7 @@
 //! What is judged of a certificate, and what a note says of it.
 
 ghost use Rattle.std.specs.Prelude.{◌≡◌, IfOk};
-ghost use Rattle.certificate_check.specs.JudgementWords.{boundary_words, judgement_words};
+ghost use Rattle.certificate_check.specs.JudgementWords.{boundary_words, judgement_words, size_words};
 
 use std::alloc::{AllocError, Global};
 use std::marker::Model;
@@ -69,26 +69,42 @@ impl Judgement {
     pub fn words(&self, alloc: Global) -> Result<Vec<u8>, AllocError>
         ensures { IfOk result (λ words. words.items ≡ judgement_words self.now) }
     {
-        let words = match self {
+        match self {
             Judgement::OpenBoundary {
                 line,
                 neighbour,
                 hi,
-            } => return boundary_words(alloc, *line, neighbour.as_bytes(), *hi),
-            Judgement::Accepted => String::from_str(alloc, "accepted")?,
-            Judgement::CoverageRange { said } => format!(in alloc; "coverage range: {said}")?,
-            Judgement::TooManyMembers { found } => format!(in alloc; "too many members: {found}")?,
-            Judgement::NotOfFormula { line } => format!(in alloc; "not of formula: line {line}")?,
-            Judgement::OutOfOrder { line } => format!(in alloc; "out of order: line {line}")?,
-            Judgement::ModeAbsent => String::from_str(alloc, "mode absent")?,
-            Judgement::SizeDiffers { said, found } => {
-                format!(in alloc; "size differs: {said}: {found}")?
+            } => boundary_words(alloc, *line, neighbour.as_bytes(), *hi),
+            Judgement::Accepted => Vec::from_slice(alloc, b"accepted"),
+            Judgement::CoverageRange { said } => {
+                Ok(format!(in alloc; "coverage range: {said}")?.into_bytes())
             }
-            Judgement::CoverShort { total } => format!(in alloc; "cover short: {total}")?,
-            Judgement::BoundTooHigh { total } => format!(in alloc; "bound too high: {total}")?,
-        };
-        Ok(words.into_bytes())
+            Judgement::TooManyMembers { found } => {
+                Ok(format!(in alloc; "too many members: {found}")?.into_bytes())
+            }
+            Judgement::NotOfFormula { line } => {
+                Ok(format!(in alloc; "not of formula: line {line}")?.into_bytes())
+            }
+            Judgement::OutOfOrder { line } => {
+                Ok(format!(in alloc; "out of order: line {line}")?.into_bytes())
+            }
+            Judgement::ModeAbsent => Vec::from_slice(alloc, b"mode absent"),
+            Judgement::SizeDiffers { said, found } => size_words(alloc, *said, *found),
+            Judgement::CoverShort { total } => {
+                Ok(format!(in alloc; "cover short: {total}")?.into_bytes())
+            }
+            Judgement::BoundTooHigh { total } => {
+                Ok(format!(in alloc; "bound too high: {total}")?.into_bytes())
+            }
+        }
     }
+}
+
+/// The words of a size that differs: the one that was said, and how many lines are marked.
+fn size_words(alloc: Global, said: u64, found: u64) -> Result<Vec<u8>, AllocError>
+    ensures { IfOk result (λ words. words.items ≡ size_words said found) }
+{
+    Ok(format!(in alloc; "size differs: {said}: {found}")?.into_bytes())
 }
 
 /// The words of an open boundary: the line, and the neighbour with its upper bound.
@@ -102,6 +118,7 @@ fn boundary_words(
 {
     let mut words = format!(in alloc; "open boundary: line {line}: ")?.into_bytes();
     words.extend_from_slice(neighbour)?;
-    words.extend_from_slice(format!(in alloc; ": {hi}")?.as_bytes())?;
+    let bound = format!(in alloc; ": {hi}")?;
+    words.extend_from_slice(bound.as_bytes())?;
     Ok(words)
 }
