@@ -167,6 +167,44 @@ expect 3 "isoform: tracer: record 2: mass number" "a tracer of an unknown isotop
 expect 7 "isoform: read fault: absent.csv" "a tracer that is not there" traced absent.csv
 expect 6 "isoform: limit: file long.csv" "a tracer that is too long" traced long.csv
 
+# Certificates: written and accepted, from elsewhere, changed, and what is no certificate.
+certify() { timeout 60 "$root/isoform" envelope --table elements.csv --formula "$1" --coverage "$2" --certificate >"$3"; }
+certify_to_full() { "$root/isoform" envelope --table elements.csv --formula CO2 --coverage 0.99 --certificate >/dev/full; }
+check() { timeout 60 "$root/isoform" check --table elements.csv --certificate "$1" "${@:2}" >out; }
+accepted() {
+    if [ "$(cat out)" != "accepted $1" ]; then
+        failed=$((failed + 1))
+        echo "$2: $(cat out) in place of accepted $1"
+    fi
+}
+expect 0 "" "a certificate" certify CO2 0.99 co2.txt
+expect 0 "" "its check" check co2.txt
+accepted "size 2 bound 2" "its check"
+expect 8 "isoform: write fault" "a certificate to a full device" certify_to_full
+expect 0 "" "a certificate of a protein" certify C257H383N65O77S6 0.99 protein.txt
+expect 0 "" "the check of a protein" check protein.txt
+accepted "$(sed -n 's/^size /size /p;s/^bound /bound /p' protein.txt | tr '\n' ' ' | sed 's/ $//')" "the check of a protein"
+printf '%s\r\n' 'isoform certificate 1' 'formula O2C' 'coverage 990000000000000000' 'size 2' 'bound 1' \
+    'threshold 10000000000000000' 'cover [12C][16O]2' 'cover [13C][16O]2' end >elsewhere.txt
+expect 0 "" "a certificate from elsewhere" check elsewhere.txt
+accepted "size 2 bound 1" "a certificate from elsewhere"
+expect 1 "isoform: certificate: not of formula: line 7" "a certificate with a tracer" check co2.txt --tracer labelled.csv
+grep -v '13C' co2.txt >less.txt
+expect 1 "isoform: certificate: open boundary: line 7: [13C][16O]2: 10648061182430000" "a line less" check less.txt
+{ head -n 6 co2.txt; yes 'cover [12C][16O]2' | head -n 1048577; echo end; } >many.txt
+expect 1 "isoform: certificate: too many members: 1048577" "one isotopologue more than may be" check many.txt
+expect 5 "isoform: certificate text: bad line 1" "a table as a certificate" check elements.csv
+expect 7 "isoform: read fault: folder" "a folder as a certificate" check folder
+truncate -s 268435456 whole.txt
+expect 5 "isoform: certificate text: bad line 1" "a certificate of exactly its limit" check whole.txt
+truncate -s 268435457 long.txt
+expect 6 "isoform: limit: file long.txt" "a certificate that is too long" check long.txt
+if command -v python3 >python; then
+    expect 0 "" "certificates with one line changed" python3 "$root/checks/certificates.py" "$root/crates/isoform/out/isoform"
+else
+    echo "no python3: certificates with one line changed aren't tried"
+fi
+
 # Notes whole: a name as long as a path may be, and an ion of 20 elements.
 long_name=$(printf './%.0s' {1..2000})long.csv
 expect 6 "isoform: limit: file $long_name" "a file of a long name that is too long" of "$long_name"

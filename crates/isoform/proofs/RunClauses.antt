@@ -16,26 +16,30 @@ use Rattle.isoform.specs.Outside.{Ending, EndsAs, IsPut, Outside, ReceivesAll, R
 use Rattle.isoform.specs.Outside.{RefusesWords, Shows, TellsLastName, TellsNote, status_of_result}
 use Rattle.isoform.specs.Refusals.{of_words_fault}
 use Rattle.isoform.specs.declared.input_fault.InputFault.{InputFault}
-use Rattle.isoform.specs.declared.input_fault.InputFault.TheVariants.{FileLimit, Table, Tracer, Peaks, Alphabet, Adduct, Rules, After, NotInBox, Formula, NoIon, CandidateLimit, Layer}
+use Rattle.isoform.specs.declared.input_fault.InputFault.TheVariants.{FileLimit, Table, Tracer, Peaks, Alphabet, Adduct, Rules, After, NotInBox, Formula, NoIon, CandidateLimit, Layer, Certificate, Rejected, CertificateLimit}
 use Rattle.isoform.specs.declared.refusal.Refusal.{Refusal}
 use Rattle.isoform.specs.declared.refusal.Refusal.TheVariants.{Words, Input, ReadFault, WriteFault, Memory}
 use Rattle.isoform.proofs.PartLaws.{all_names, if_some_map}
 
--- the status of what was given is from 3 to 6
-pub status_range : (fault : InputFault) → (3 ≤ status_of_fault fault) × (status_of_fault fault ≤ 6)
-status_range (FileLimit name) = (lit≤ tt, lit≤ tt)
-status_range (Table fault) = (lit≤ tt, lit≤ tt)
-status_range (Tracer fault) = (lit≤ tt, lit≤ tt)
-status_range (Peaks fault) = (lit≤ tt, lit≤ tt)
-status_range (Alphabet fault) = (lit≤ tt, lit≤ tt)
-status_range (Adduct fault) = (lit≤ tt, lit≤ tt)
-status_range (Rules fault) = (lit≤ tt, lit≤ tt)
-status_range (After fault) = (lit≤ tt, lit≤ tt)
-status_range NotInBox = (lit≤ tt, lit≤ tt)
-status_range (Formula fault) = (lit≤ tt, lit≤ tt)
-status_range NoIon = (lit≤ tt, lit≤ tt)
-status_range (CandidateLimit peak) = (lit≤ tt, lit≤ tt)
-status_range (Layer ion) = (lit≤ tt, lit≤ tt)
+-- the status of what was given is 1, or from 3 to 6
+pub status_range : (fault : InputFault) →
+    ((status_of_fault fault ≡ 2) → ⊥) × (1 ≤ status_of_fault fault) × (status_of_fault fault ≤ 6)
+status_range (FileLimit name) = ((λ e. omega (arith, e)), lit≤ tt, lit≤ tt)
+status_range (Table fault) = ((λ e. omega (arith, e)), lit≤ tt, lit≤ tt)
+status_range (Tracer fault) = ((λ e. omega (arith, e)), lit≤ tt, lit≤ tt)
+status_range (Peaks fault) = ((λ e. omega (arith, e)), lit≤ tt, lit≤ tt)
+status_range (Alphabet fault) = ((λ e. omega (arith, e)), lit≤ tt, lit≤ tt)
+status_range (Adduct fault) = ((λ e. omega (arith, e)), lit≤ tt, lit≤ tt)
+status_range (Rules fault) = ((λ e. omega (arith, e)), lit≤ tt, lit≤ tt)
+status_range (After fault) = ((λ e. omega (arith, e)), lit≤ tt, lit≤ tt)
+status_range NotInBox = ((λ e. omega (arith, e)), lit≤ tt, lit≤ tt)
+status_range (Formula fault) = ((λ e. omega (arith, e)), lit≤ tt, lit≤ tt)
+status_range NoIon = ((λ e. omega (arith, e)), lit≤ tt, lit≤ tt)
+status_range (CandidateLimit peak) = ((λ e. omega (arith, e)), lit≤ tt, lit≤ tt)
+status_range (Layer ion) = ((λ e. omega (arith, e)), lit≤ tt, lit≤ tt)
+status_range (Certificate fault) = ((λ e. omega (arith, e)), lit≤ tt, lit≤ tt)
+status_range (Rejected judgement) = ((λ e. omega (arith, e)), lit≤ tt, lit≤ tt)
+status_range CertificateLimit = ((λ e. omega (arith, e)), lit≤ tt, lit≤ tt)
 
 -- ---- the words
 
@@ -48,7 +52,7 @@ pub refused_words : (request : Result Request WordsFault) (told : Refusal) (stat
     RefusesWords request (Err told) → status ≡ status_of told → status ≡ 2 → IsErr request
 refused_words request (Words fault) status refuses is two = words_are_refused request fault refuses
 refused_words request (Input fault) status refuses is two =
-    let range = status_range fault in absurd (omega (arith, is, two, range.0))
+    absurd ((status_range fault).0 (sym is ∙ two))
 refused_words request (ReadFault name) status refuses is two = absurd (omega (arith, is, two))
 refused_words request WriteFault status refuses is two = absurd (omega (arith, is, two))
 refused_words request Memory status refuses is two = absurd (omega (arith, is, two))
@@ -132,9 +136,9 @@ some_with answer before after (Words fault) status ends is (inr nine) = absurd (
 some_with answer before after (ReadFault name) status ends is (inl eight) = absurd (omega (arith, is, eight))
 some_with answer before after (ReadFault name) status ends is (inr nine) = absurd (omega (arith, is, nine))
 some_with answer before after (Input fault) status ends is (inl eight) =
-    let range = status_range fault in absurd (omega (arith, is, eight, range.1))
+    let range = status_range fault in absurd (omega (arith, is, eight, range.2))
 some_with answer before after (Input fault) status ends is (inr nine) =
-    let range = status_range fault in absurd (omega (arith, is, nine, range.1))
+    let range = status_range fault in absurd (omega (arith, is, nine, range.2))
 
 pub some_received : (held : Option Files) (answer : Files → Asked Outcome) (before after : Outside) (told : Refusal)
     (status : ℕ) → IfSome held (λ files. EndsAs (answer files) before after (Err told)) →
@@ -182,7 +186,7 @@ noted_nothing held answer before after notes faults ends =
 -- a status of 0 comes of no refusal
 pub never_zero : (told : Refusal) (status : ℕ) → status ≡ status_of told → status ≡ 0 → ⊥
 never_zero (Words fault) status is zero = omega (arith, is, zero)
-never_zero (Input fault) status is zero = let range = status_range fault in omega (arith, is, zero, range.0)
+never_zero (Input fault) status is zero = let range = status_range fault in omega (arith, is, zero, range.1)
 never_zero (ReadFault name) status is zero = omega (arith, is, zero)
 never_zero WriteFault status is zero = omega (arith, is, zero)
 never_zero Memory status is zero = omega (arith, is, zero)
@@ -206,7 +210,7 @@ last_name names before after (ReadFault name) status nb fb na fa shows put is se
 }
 last_name names before after (Words fault) status nb fb na fa shows put is seven = absurd (omega (arith, is, seven))
 last_name names before after (Input fault) status nb fb na fa shows put is seven =
-    let range = status_range fault in absurd (omega (arith, is, seven, range.1))
+    let range = status_range fault in absurd (omega (arith, is, seven, range.2))
 last_name names before after WriteFault status nb fb na fa shows put is seven = absurd (omega (arith, is, seven))
 last_name names before after Memory status nb fb na fa shows put is seven = absurd (omega (arith, is, seven))
 
@@ -215,7 +219,7 @@ pub write_note : (told : Refusal) (status : ℕ) (nb : Option (List ℕ)) (fb : 
 write_note WriteFault status nb fb na fa put is eight = put
 write_note (Words fault) status nb fb na fa put is eight = absurd (omega (arith, is, eight))
 write_note (Input fault) status nb fb na fa put is eight =
-    let range = status_range fault in absurd (omega (arith, is, eight, range.1))
+    let range = status_range fault in absurd (omega (arith, is, eight, range.2))
 write_note (ReadFault name) status nb fb na fa put is eight = absurd (omega (arith, is, eight))
 write_note Memory status nb fb na fa put is eight = absurd (omega (arith, is, eight))
 
@@ -224,6 +228,6 @@ pub memory_note : (told : Refusal) (status : ℕ) (nb : Option (List ℕ)) (fb :
 memory_note Memory status nb fb na fa put is nine = put
 memory_note (Words fault) status nb fb na fa put is nine = absurd (omega (arith, is, nine))
 memory_note (Input fault) status nb fb na fa put is nine =
-    let range = status_range fault in absurd (omega (arith, is, nine, range.1))
+    let range = status_range fault in absurd (omega (arith, is, nine, range.2))
 memory_note (ReadFault name) status nb fb na fa put is nine = absurd (omega (arith, is, nine))
 memory_note WriteFault status nb fb na fa put is nine = absurd (omega (arith, is, nine))

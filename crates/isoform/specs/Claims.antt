@@ -1,5 +1,5 @@
--- What holds of what a run printed: of the formulas of peaks, and of an envelope in exact weights.
-use Rattle.std.specs.Prelude.{◌≡◌, ◌≢◌, ℕ, ◌≤◌, List, [], ◌∷◌, ◌++◌, length, Option, Some, MatchOption, Ok, All, AllPairs, Contains, map, IsTrue, ◌↔◌}
+-- What holds of what a run printed: of the formulas of peaks, of an envelope in exact weights, and of certificates.
+use Rattle.std.specs.Prelude.{◌≡◌, ◌≢◌, ℕ, ◌≤◌, List, [], ◌∷◌, ◌++◌, length, Ok, Option, Some, MatchOption, All, AllPairs, Contains, map, IsTrue, ◌↔◌}
 use Rattle.mass_scaling.specs.Tolerances.{Within}
 use Rattle.decompose.specs.CountLists.{IsInBox, comes_after}
 use Rattle.decompose.specs.Enumeration.{lists_after}
@@ -17,7 +17,13 @@ use Rattle.multinomial_bounds.specs.Isotopologue.{isotopologue_weight, all_weigh
 use Rattle.isotopologue_sets.specs.Covers.{IsCover}
 use Rattle.isotopologue_text.specs.Isotopologues.{formula_elements}
 use Rattle.cover_certificate.specs.FormulaCovers.{CoverEntries, member_numbers}
-use Rattle.isoform.specs.Answer.{Outcome, Formulas, Cover}
+use Rattle.certificate_text.specs.CertificateReader.{certificate_of}
+use Rattle.certificate_text.specs.WrittenCertificates.{written_text}
+use Rattle.cover_certificate.specs.CoverCertificates.{certificate_of_cover}
+use Rattle.certificate_check.specs.CertificateMeaning.{CertificateMeans}
+use Rattle.certificate_check.specs.Judgements.{judgement}
+use Rattle.certificate_check.specs.declared.judgement.Judgement.TheVariants.{Accepted}
+use Rattle.isoform.specs.Answer.{Outcome, Formulas, Cover, Certified, Checked}
 use Rattle.isoform.specs.PageFormulas.{asked_counts, token_counts}
 use Rattle.isoform.specs.Queries.{FormulaQuery}
 use Rattle.isoform.specs.Reports.{asked_cover}
@@ -89,7 +95,16 @@ pub record HoldsTrue (table : TableEntries) (cover : CoverEntries) : Type 0 wher
       (all_weight (formula_elements table cover.formula)))
       (map (member_numbers (formula_elements table cover.formula)) cover.layer)
 
--- what is claimed of an outcome: the formulas of each peak are exactly those, and what its cover claims is true
+-- The certificate of a cover passes its check: its text is read as it by the table that the cover was made with, and it
+-- is accepted.
+pub record PassesCheck (table : TableEntries) (cover : CoverEntries) : Type 0 where
+  pub read_again : certificate_of table (written_text (certificate_of_cover cover)) ≡ Ok (certificate_of_cover cover)
+  pub accepted : judgement table (certificate_of_cover cover) ≡ Accepted
+
+-- What is claimed of an outcome: the formulas of each peak are exactly those; what its cover claims is true, and the
+-- certificate that was printed of it passes its check; what the certificate that was accepted says is true.
 abbrev pub Holds : Outcome → Type 0
 Holds (Formulas query) = All (PrintsPeak query) query.mzs
 Holds (Cover query) = HoldsTrue query.table (asked_cover query)
+Holds (Certified query) = HoldsTrue query.table (asked_cover query) × PassesCheck query.table (asked_cover query)
+Holds (Checked query) = CertificateMeans query.table query.certificate

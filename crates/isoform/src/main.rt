@@ -7,10 +7,13 @@
 //! Contracts see words and reports as their bytes, and files and streams as `outside_ports` shows them. The program
 //! stands on `command_words` for its words, on `element_table`, `peak_text`, `alphabet_text`, `adducts`,
 //! `golden_rules` and `formula_text` for what it reads, on `candidates` for the formulas of a peak, on
-//! `cover_certificate` for the cover of an ion, on `report_lines` for lines, and on `outside_ports` for its devices.
+//! `cover_certificate` for the cover of an ion and its certificate, on `certificate_check` for the judgement of one, on
+//! `report_lines` for lines, and on `outside_ports` for its devices.
 //! Nothing stands above it. It gives out [`request_of`] and [`cover_of`] with their types too.
 #![tactic(auto)]
 
+mod certified;
+mod check;
 mod decomposition;
 mod envelope;
 mod input_fault;
@@ -21,6 +24,8 @@ mod run;
 
 use outside_ports::{FileShelf, Sink, StreamSink};
 
+#[cfg(test)]
+mod certificate_tests;
 #[cfg(test)]
 mod envelope_tests;
 #[cfg(test)]

@@ -2,7 +2,8 @@ use Rattle.std.proofs.Common.{refl}
 use Rattle.std.specs.Prelude.{Ok, Err, map, string_bytes}
 use Rattle.command_words.specs.WordReading.{request_of}
 use Rattle.isoform.specs.Answer.{answer}
-use Rattle.isoform.specs.Outside.{outside}
+use Rattle.isoform.specs.Outside.{ReceivesAll, outside}
+use Rattle.isoform.proofs.CertificateRuns.{run_certifies, run_checks}
 use Rattle.isoform.proofs.Endings.{told_ends, told_refuses, told_shows}
 use Rattle.isoform.proofs.PartLaws.{all_names, if_some_map}
 use Rattle.isoform.proofs.RunClauses.{asked_up_to, asked_within, last_name, memory_note, never_zero, no_request}
@@ -148,3 +149,25 @@ returns-in-Ok-clause-noted g c = λ _ _ _.
 
 pub returns-in-Ok-clause-asked : goal.returns-in-Ok-clause-asked
 returns-in-Ok-clause-asked g c = all_names _ _ _ c.in-Ok.ensures.shows.asks
+
+pub returns-in-Ok-clause-true_check : goal.returns-in-Ok-clause-true_check
+returns-in-Ok-clause-true_check g c = λ zero.
+    if_some_map (g.H.Shelf.held c.args.shelf.now) _ _
+    (λ files ends. run_checks (map string_bytes c.args.words.now.items) files
+    (λ outcome. ReceivesAll outcome (g.O.Sink.written c.args.out.now) (g.O.Sink.written c.serve.new.out)) ends.0)
+    c.in-Ok.ensures.answers
+
+pub returns-in-Ok-clause-accepted_later : goal.returns-in-Ok-clause-accepted_later
+returns-in-Ok-clause-accepted_later g c = λ zero.
+    if_some_map (g.H.Shelf.held c.args.shelf.now) _ _
+    (λ files ends. run_certifies (map string_bytes c.args.words.now.items) files
+    (λ outcome. ReceivesAll outcome (g.O.Sink.written c.args.out.now) (g.O.Sink.written c.serve.new.out)) ends.0)
+    c.in-Ok.ensures.answers
+
+pub returns-in-Err-clause-true_check : goal.returns-in-Err-clause-true_check
+returns-in-Err-clause-true_check g c = λ zero.
+    absurd (never_zero c.refuse.ensures.0 c.refuse.result c.refuse.ensures.2 zero)
+
+pub returns-in-Err-clause-accepted_later : goal.returns-in-Err-clause-accepted_later
+returns-in-Err-clause-accepted_later g c = λ zero.
+    absurd (never_zero c.refuse.ensures.0 c.refuse.result c.refuse.ensures.2 zero)
