@@ -1,1 +1,3 @@
 pub mod RankingOrder
+pub mod IonMasses
+pub mod CoverPredictions

@@ -3,14 +3,14 @@ use Rattle.std.proofs.Common.{◌≡◌, ℕ, Bool, true, false, cond, List, [],
 use Rattle.std.specs.Prelude.{◌&&◌, ◌||◌, ◌==◌}
 use Rattle.std.specs.List.{enumerate_from}
 use Rattle.std.specs.List.Sorted.{IsPermutation, IsSortedBy}
-use Rattle.std.specs.Cmp.{IsTotalOrder, IsStrictWeakOrder}
+use Rattle.std.specs.Cmp.{IsStrictWeakOrder}
 use Rattle.std.specs.Ordering.{is_lt, nat_cmp, ordering_then}
 use Rattle.std.specs.declared.cmp.Ordering.TheVariants.{Less, Equal, Greater}
 use Rattle.std.proofs.lemmas.Cmp.{nat_cmp_total, on_total, then_total}
 use Rattle.std.proofs.lemmas.List.Sorted.{ranks_by}
-use Rattle.sorted_lists.specs.SortedLists.{sorted_by, IsStrictOrder}
+use Rattle.sorted_lists.specs.SortedLists.{IsStrictOrder}
 use Rattle.sorted_lists.proofs.SortedListLaws.{sorted_by-only, map-sorted_by}
-use Rattle.ranking.specs.Places.{RankedEntry, stands_before, key_of, placed_before, keys_of, ranking, places_of}
+use Rattle.ranking.specs.Places.{RankedEntry, stands_before, key_of, keys_of, ranking, places_of}
 
 -- the order of pairs of numbers that std has
 abbrev pair_before : ℕ × ℕ → ℕ × ℕ → Bool
