@@ -1,3 +1,5 @@
 pub mod RankingOrder
+pub mod StableOrder
 pub mod IonMasses
 pub mod CoverPredictions
+pub mod JobSteps
