@@ -1,0 +1,6 @@
+pub use Rattle.serde.specs.Event
+pub use Rattle.serde_json.specs.Data
+pub use Rattle.serde_json.specs.Written
+pub use Rattle.report_lines.specs.ReportLines
+pub mod Sent
+pub mod JsonReports
