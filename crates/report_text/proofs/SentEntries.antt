@@ -7,10 +7,12 @@ use Rattle.serde_json.specs.View.{items_of}
 use Rattle.serde_json.specs.Written.{has_float, items_have_float}
 use Rattle.report_text.specs.declared.decompose_entries.PeakEntry.{PeakEntry}
 use Rattle.report_text.specs.declared.envelope_entries.CoverEntry.{CoverEntry}
+use Rattle.report_text.specs.declared.rank_entries.JobEntry.{JobEntry}
 use Rattle.report_text.specs.declared.report.Report.{Report}
-use Rattle.report_text.specs.declared.report.Report.TheVariants.{Decompose, Envelope}
+use Rattle.report_text.specs.declared.report.Report.TheVariants.{Decompose, Envelope, Rank}
 use Rattle.report_text.specs.Sent.{SendsOnly}
-use Rattle.report_text.specs.JsonReports.{cover_data, formula_data, isotopologue_data, list_data, peak_data, report_data}
+use Rattle.report_text.specs.JsonReports.{cover_data, formula_data, isotopologue_data, job_data, list_data, peak_data}
+use Rattle.report_text.specs.JsonReports.{place_data, report_data}
 
 items_len-map : {A : Type 0} (data_of : A → Data) (xs : List A) → items_len (items_of (map data_of xs)) ≡ length xs
 items_len-map data_of [] = refl
@@ -49,7 +51,11 @@ peak_no_float e = rw (items_no_float formula_data (λ x. refl) e.formulas) refl
 cover_no_float : (e : CoverEntry) → has_float (cover_data e) ≡ false
 cover_no_float e = rw (items_no_float isotopologue_data (λ x. refl) e.isotopologues) refl
 
+job_no_float : (e : JobEntry) → has_float (job_data e) ≡ false
+job_no_float e = rw (items_no_float place_data (λ x. refl) e.places) refl
+
 -- no number of a report is a float
 pub report_no_float : (report : Report) → has_float (report_data report) ≡ false
 report_no_float (Decompose peaks) = rw (items_no_float peak_data peak_no_float peaks) refl
 report_no_float (Envelope cover) = cover_no_float cover
+report_no_float (Rank jobs) = rw (items_no_float job_data job_no_float jobs) refl

@@ -6,27 +6,32 @@ ghost use Rattle.report_lines.specs.ReportLines.{IsPrintedWith, cover_members};
 ghost use Rattle.serde.specs.Event.{WritesSeq};
 ghost use Rattle.serde_json.specs.Events.{SendsValue};
 ghost use Rattle.serde_json.specs.Written.{compact_text};
-ghost use Rattle.report_text.specs.JsonReports.{IsOfFormulas, cover_entry, json_text, report_data, with_peak};
+ghost use Rattle.report_text.specs.JsonReports.{IsOfFormulas, IsOfJobs, cover_entry, json_text, report_data, with_job, with_peak};
 ghost use Rattle.report_text.specs.Sent.{SendsOnly};
 
 use crate::decompose_entries::PeakEntry;
 use crate::entries::Entries;
 use crate::envelope_entries::CoverEntry;
 use crate::member::send_member;
+use crate::rank_entries::JobEntry;
 use adducts::Adduct;
 use cover_certificate::Cover;
 use element_table::Table;
 use formula_text::Formula;
+use ranking::Ranked;
 use serde::{Described, Serialize, Serializer};
 use std::alloc::{AllocError, Global};
 
-/// A report that is printed as JSON: of the formulas of peaks, or of a cover.
+/// A report that is printed as JSON: of the formulas of peaks, of a cover, or of ranked
+/// peaks.
 #[derive(Drop)]
 pub enum Report {
     /// The peaks with their formulas.
     Decompose(Entries<PeakEntry>),
     /// A cover with its isotopologues.
     Envelope(CoverEntry),
+    /// The jobs with what they found.
+    Rank(Entries<JobEntry>),
 }
 
 impl Report {
@@ -35,6 +40,13 @@ impl Report {
         ensures { result ≡ Report.Decompose [] }
     {
         Report::Decompose(Entries::new(alloc))
+    }
+
+    /// A report of no job.
+    pub fn rank(alloc: Global) -> Report
+        ensures { result ≡ Report.Rank [] }
+    {
+        Report::Rank(Entries::new(alloc))
     }
 
     /// The report of a cover, with the shift added to each mass.
@@ -68,7 +80,28 @@ impl Report {
                 let number = peaks.len() as u64 + 1;
                 peaks.push(PeakEntry::of(alloc, table, adduct, number, mz, formulas)?)
             }
-            Report::Envelope(_) => unreachable!(),
+            Report::Envelope(_) | Report::Rank(_) => unreachable!(),
+        }
+    }
+
+    /// Appends a job: the number of its peak, the m/z of that in 10^-12 Da, whether it is done, and the formulas that it
+    /// found, which may stand in any order. The report is one of ranked peaks. Without memory for it the report stays as
+    /// it was.
+    pub fn add_job(
+        &mut self,
+        alloc: Global,
+        peak: u64,
+        mz: u64,
+        done: bool,
+        found: &[Ranked],
+    ) -> Result<(), AllocError>
+        requires kind { IsOfJobs self.old }
+        ensures added { OnOk result (self.new ≡ with_job peak mz done found.now self.old) }
+        ensures refused { OnErr result (self.new ≡ self.old) }
+    {
+        match self {
+            Report::Rank(jobs) => jobs.push(JobEntry::of(alloc, peak, mz, done, found)?),
+            Report::Decompose(_) | Report::Envelope(_) => unreachable!(),
         }
     }
 }
@@ -82,6 +115,7 @@ impl Serialize for Report {
         match self {
             Report::Decompose(peaks) => send_only(out, "peaks", peaks),
             Report::Envelope(cover) => cover.serialize(out),
+            Report::Rank(jobs) => send_only(out, "jobs", jobs),
         }
     }
 }
