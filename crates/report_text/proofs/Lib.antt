@@ -1,1 +1,2 @@
 pub mod SentEntries
+pub mod Places

@@ -28,9 +28,11 @@ each_sent data_of (x ∷ xs) old last new each ended =
 -- entries one after another are a list
 pub list_sent : {A : Type 0} (data_of : A → Data) (xs : List A) (old new : Log)
     → WritesSeq (λ x. SendsValue (data_of x)) xs old new → SendsValue (list_data data_of xs) old new
-list_sent data_of xs old new sent =
-    (sent.0, subst (λ (n : ℕ). Logs old sent.0 (seq_begins (Some n))) (sym (items_len-map data_of xs)) sent.2,
-    each_sent data_of xs sent.0 sent.1 new sent.3 sent.4)
+list_sent data_of xs old new sent = (
+  sent.0,
+  subst (λ (n : ℕ). Logs old sent.0 (seq_begins (Some n))) (sym (items_len-map data_of xs)) sent.2,
+  each_sent data_of xs sent.0 sent.1 new sent.3 sent.4,
+)
 
 -- a list alone in an object
 pub only_sent : {A : Type 0} (key : List ℕ) (data_of : A → Data) (xs : List A) (old new : Log)

@@ -1,5 +1,5 @@
--- Reports in JSON, over the texts of the lines of the same reports. Masses, m/z and differences of masses are texts, and
--- so are coverages, thresholds and the bounds of probabilities, which are whole numbers of 10^-18 and may be too great
+-- Reports in JSON, over the texts of the lines of the same reports. Masses, m/z and differences of masses are texts,
+-- and so are coverages, thresholds and the bounds of probabilities, which are whole numbers of 10^-18 and may be too great
 -- for readers that keep numbers as floats. The keys of an object stand in the order of their bytes.
 use Rattle.std.specs.Prelude.{ℕ, ℤ, Bool, pos, ◌+◌, List, [], ◌∷◌, ◌++◌, length, map, codes, unwrap_or, ⊤}
 use Rattle.std.specs.List.{enumerate_from}
@@ -11,7 +11,8 @@ use Rattle.formula_text.specs.PrintedText.{printed_text}
 use Rattle.adducts.specs.Adducts.{AdductValue, divisor_of}
 use Rattle.adducts.specs.Ions.{ion_mass}
 use Rattle.cover_certificate.specs.FormulaCovers.{CoverEntries, MemberEntry}
-use Rattle.report_lines.specs.ReportLines.{cover_members, ion_mass_text, line_feed, mass_difference, mass_text, shifted_mass}
+use Rattle.report_lines.specs.ReportLines.{cover_members, ion_mass_text, line_feed, mass_difference, mass_text}
+use Rattle.report_lines.specs.ReportLines.{shifted_mass}
 use Rattle.ranking.specs.Places.{RankedEntry, by_score}
 use Rattle.serde_json.specs.Data.{Data, array, boolean, member, no_members, number, object, string, unsigned}
 use Rattle.serde_json.specs.View.{items_of}
@@ -25,17 +26,21 @@ use Rattle.report_text.specs.declared.rank_entries.JobEntry.{JobEntry}
 use Rattle.report_text.specs.declared.report.Report.{Report}
 use Rattle.report_text.specs.declared.report.Report.TheVariants.{Decompose, Envelope, Rank}
 
--- a formula of a peak, of which the ion is defined: its text and its mass, the mass of its ion, and how far that is
--- above divisor times m/z
+-- a formula of a peak over its ion: its text and its mass, the mass of the ion, and how far that is above divisor times
+-- m/z
+abbrev pub ion_entry : List (Item × ℕ) → ℕ → ℤ → ℕ → ℕ → FormulaEntry
+ion_entry formula mass ion_mass mz divisor =
+    record {
+      delta = signed_decimal (mass_difference ion_mass mz divisor);
+      formula = printed_text formula;
+      ion = ion_mass_text ion_mass;
+      mass = mass_text mass;
+    }
+
+-- the same of a formula of which the ion is defined
 abbrev pub formula_entry : TableEntries → AdductValue → ℕ → List (Item × ℕ) → FormulaEntry
 formula_entry table adduct mz formula =
-    let ion = unwrap_or (ion_mass table adduct formula) (pos 0) in
-    record {
-      delta = signed_decimal (mass_difference ion mz (divisor_of adduct));
-      formula = printed_text formula;
-      ion = ion_mass_text ion;
-      mass = mass_text (mass_of table formula);
-    }
+    ion_entry formula (mass_of table formula) (unwrap_or (ion_mass table adduct formula) (pos 0)) mz (divisor_of adduct)
 
 -- a peak of this number and this m/z
 abbrev pub peak_entry : TableEntries → AdductValue → ℕ → ℕ → List (List (Item × ℕ)) → PeakEntry

@@ -10,4 +10,5 @@ SendsMember key value old new = (named : Log) × Logs old named (field_key key A
 -- an object of one member
 abbrev pub SendsOnly : List ℕ → (Log → Log → Type 0) → Log → Log → Type 0
 SendsOnly key value old new =
-    (begun ended : Log) × Logs old begun (map_begins (Some 1)) × SendsMember key value begun ended × Logs ended new map_ends
+    (begun ended : Log) × Logs old begun (map_begins (Some 1)) × SendsMember key value begun ended
+    × Logs ended new map_ends

@@ -1,9 +1,10 @@
 //! The entries of the report of formulas in JSON.
-ghost use Rattle.std.specs.Prelude.{◌≡◌, All, IfOk, IsTrue, is_some, map, take};
+ghost use Rattle.std.specs.Prelude.{◌≡◌, All, IfOk, IsTrue, is_some, map};
 ghost use Rattle.formula_text.specs.Masses.{HasItems};
 ghost use Rattle.adducts.specs.Ions.{ion_of};
+ghost use Rattle.report_lines.specs.ReportLines.{IsPrintedMass};
 ghost use Rattle.serde_json.specs.Events.{SendsValue};
-ghost use Rattle.report_text.specs.JsonReports.{formula_data, formula_entry, peak_data, peak_entry};
+ghost use Rattle.report_text.specs.JsonReports.{formula_data, formula_entry, ion_entry, peak_data, peak_entry};
 
 use crate::entries::Entries;
 use crate::member::send_member;
@@ -39,16 +40,33 @@ impl FormulaEntry {
         requires defined { IsTrue (is_some (ion_of adduct.now formula.now)) }
         ensures { IfOk result (λ entry. entry ≡ formula_entry table.now adduct.now mz formula.now) }
     {
-        let ion = match ion_mass(table, formula, adduct) {
-            Some(ion) => ion,
+        match ion_mass(table, formula, adduct) {
+            Some(ion_mass) => {
+                let mass = formula.mass(table);
+                FormulaEntry::with_ion(alloc, formula, mass, ion_mass, mz, adduct.divisor())
+            }
             None => unreachable!(),
-        };
-        let delta = mass_difference(ion, mz, adduct.divisor());
+        }
+    }
+
+    /// The entry of a formula of this mass over its ion of this mass.
+    fn with_ion(
+        alloc: Global,
+        formula: &Formula,
+        mass: u64,
+        ion_mass: i128,
+        mz: u64,
+        divisor: u32,
+    ) -> Result<FormulaEntry, AllocError>
+        requires { IsPrintedMass ion_mass }
+        ensures { IfOk result (λ entry. entry ≡ ion_entry formula.now mass ion_mass mz divisor) }
+    {
+        let difference = mass_difference(ion_mass, mz, divisor);
         Ok(FormulaEntry {
-            delta: Text::of(alloc, &Word::Difference(delta))?,
+            delta: Text::of(alloc, &Word::Difference(difference))?,
             formula: Text::of(alloc, &Word::Formula(formula.items()))?,
-            ion: Text::of(alloc, &ion_mass_word(ion))?,
-            mass: Text::of(alloc, &Word::Mass(formula.mass(table)))?,
+            ion: Text::of(alloc, &ion_mass_word(ion_mass))?,
+            mass: Text::of(alloc, &Word::Mass(mass))?,
         })
     }
 }

@@ -18,8 +18,8 @@ mod report;
 mod text;
 
 pub use rank::{
-    job_line, place_line, push_job_line, push_place_line, push_rank_head, push_rank_text, rank_head,
-    rank_text,
+    job_line, place_line, push_job_line, push_place_line, push_rank_head, push_rank_text,
+    rank_head, rank_text,
 };
 pub use report::{Report, json_text};
 pub use report_lines::{
@@ -27,3 +27,6 @@ pub use report_lines::{
     push_decompose_head, push_decompose_line, push_envelope_head, push_envelope_text,
     push_isotopologue_line, push_peak_line,
 };
+
+#[cfg(test)]
+mod tests;

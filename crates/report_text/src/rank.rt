@@ -26,8 +26,8 @@ pub fn push_rank_head(report: &mut Vec<u8>, jobs: u64) -> Result<(), AllocError>
     push_line(report, &[Word::Text(b"rank"), Word::Number(jobs)])
 }
 
-/// The line of a job above its places: the number of its peak, the m/z of that in 10^-12 Da, whether it is done, and how
-/// many formulas it found.
+/// The line of a job above its places: the number of its peak, the m/z of that in 10^-12 Da, whether it is done, and
+/// how many formulas it found.
 pub fn job_line(
     alloc: Global,
     peak: u64,
@@ -87,11 +87,7 @@ pub fn place_line(alloc: Global, place: u64, ranked: &Ranked) -> Result<Vec<u8>,
 
 /// Appends the line of a formula at a place, as [`place_line`] gives it. Without room for it the report stays as it
 /// was.
-pub fn push_place_line(
-    report: &mut Vec<u8>,
-    place: u64,
-    ranked: &Ranked,
-) -> Result<(), AllocError>
+pub fn push_place_line(report: &mut Vec<u8>, place: u64, ranked: &Ranked) -> Result<(), AllocError>
     ensures line { OnOk result (report.new.items ≡ report.old.items ++ place_line (place, ranked.now)) }
     ensures refused { OnErr result (report.new.items ≡ report.old.items) }
 {
@@ -171,7 +167,10 @@ fn push_place_lines(report: &mut Vec<u8>, order: &[&Ranked]) -> Result<(), Alloc
 }
 
 /// Formulas by rising score, ties in their order.
-pub(crate) fn in_order<'a>(alloc: Global, found: &'a [Ranked]) -> Result<Vec<&'a Ranked>, AllocError>
+pub(crate) fn in_order<'a>(
+    alloc: Global,
+    found: &'a [Ranked],
+) -> Result<Vec<&'a Ranked>, AllocError>
     ensures { IfOk result (λ order. map (λ r. r.now) order.items ≡ by_score found.now) }
 {
     let mut order = Vec::new(alloc);

@@ -1,7 +1,6 @@
 //! The entries of the report of ranked peaks in JSON.
 ghost use Rattle.std.specs.Prelude.{◌≡◌, IfOk, map};
 ghost use Rattle.std.specs.List.{enumerate_from};
-ghost use Rattle.ranking.specs.Places.{by_score};
 ghost use Rattle.serde_json.specs.Events.{SendsValue};
 ghost use Rattle.report_text.specs.JsonReports.{job_data, job_entry, place_data, place_entry};
 
@@ -81,18 +80,18 @@ impl JobEntry {
             done,
             mz: Text::of(alloc, &Word::Mass(mz))?,
             peak,
-            places: place_entries(alloc, found)?,
+            places: place_entries(alloc, &in_order(alloc, found)?)?,
         })
     }
 }
 
-/// The entries of formulas in the order of their places.
-fn place_entries(alloc: Global, found: &[Ranked]) -> Result<Entries<PlaceEntry>, AllocError>
+/// The entries of formulas that stand in their places.
+fn place_entries(alloc: Global, order: &[&Ranked]) -> Result<Entries<PlaceEntry>, AllocError>
     ensures { IfOk result (λ entries.
-        entries ≡ map place_entry (enumerate_from 1 (by_score found.now))) }
+        entries ≡ map place_entry (enumerate_from 1 (map (λ r. r.now) order.now))) }
 {
     let mut entries = Entries::new(alloc);
-    for (i, ranked) in in_order(alloc, found)?.iter().enumerate() {
+    for (i, ranked) in order.iter().enumerate() {
         entries.push(PlaceEntry::of(alloc, i as u64 + 1, ranked)?)?;
     }
     Ok(entries)

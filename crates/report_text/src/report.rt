@@ -6,7 +6,8 @@ ghost use Rattle.report_lines.specs.ReportLines.{IsPrintedWith, cover_members};
 ghost use Rattle.serde.specs.Event.{WritesSeq};
 ghost use Rattle.serde_json.specs.Events.{SendsValue};
 ghost use Rattle.serde_json.specs.Written.{compact_text};
-ghost use Rattle.report_text.specs.JsonReports.{IsOfFormulas, IsOfJobs, cover_entry, json_text, report_data, with_job, with_peak};
+ghost use Rattle.report_text.specs.JsonReports.{IsOfFormulas, IsOfJobs, cover_entry, json_text, report_data};
+ghost use Rattle.report_text.specs.JsonReports.{with_job, with_peak};
 ghost use Rattle.report_text.specs.Sent.{SendsOnly};
 
 use crate::decompose_entries::PeakEntry;
@@ -84,9 +85,9 @@ impl Report {
         }
     }
 
-    /// Appends a job: the number of its peak, the m/z of that in 10^-12 Da, whether it is done, and the formulas that it
-    /// found, which may stand in any order. The report is one of ranked peaks. Without memory for it the report stays as
-    /// it was.
+    /// Appends a job: the number of its peak, the m/z of that in 10^-12 Da, whether it is done, and the formulas that
+    /// it found, which may stand in any order. The report is one of ranked peaks. Without memory for it the report
+    /// stays as it was.
     pub fn add_job(
         &mut self,
         alloc: Global,
