@@ -1,5 +1,5 @@
 //! A list of entries of a report in JSON.
-ghost use Rattle.std.specs.Prelude.{◌≡◌, ◌∷◌, [], ◌++◌, length, OnOk, OnErr};
+ghost use Rattle.std.specs.Prelude.{◌≡◌, ◌∷◌, [], ◌++◌, OnOk, OnErr};
 ghost use Rattle.serde.specs.Event.{WritesSeq};
 
 use serde::{Described, Serialize, Serializer};
@@ -30,11 +30,11 @@ impl<T: Drop> Entries<T> {
         }
     }
 
-    /// How many there are.
-    pub fn len(&self) -> usize
-        ensures { result ≡ length self.now }
+    /// The entries.
+    pub fn as_slice(&self) -> &[T]
+        ensures { result.now ≡ self.now }
     {
-        self.list.len()
+        self.list.as_slice()
     }
 
     /// Appends an entry. Without room for it the entries stay as they were.

@@ -1,5 +1,5 @@
 //! The lines of the report of ranked peaks.
-ghost use Rattle.std.specs.Prelude.{◌≡◌, ◌++◌, IfOk, OnErr, OnOk, length, map, take};
+ghost use Rattle.std.specs.Prelude.{◌≡◌, ◌<◌, ◌++◌, IfOk, OnErr, OnOk, length, map, slice_index_or, take};
 ghost use Rattle.std.specs.List.{flat_map, enumerate_from};
 ghost use Rattle.ranking.specs.Places.{by_score};
 ghost use Rattle.report_lines.specs.Words.{word_text};
@@ -134,7 +134,7 @@ pub fn push_rank_text(
 {
     let order = in_order(alloc, found)?;
     let start = report.len();
-    let pushed = push_job_lines(report, peak, mz, done, &order);
+    let pushed = push_job_lines(report, peak, mz, done, found.len() as u64, &order);
     cut_unless_pushed(report, start, pushed)
 }
 
@@ -144,13 +144,14 @@ fn push_job_lines(
     peak: u64,
     mz: u64,
     done: bool,
+    found: u64,
     order: &[&Ranked],
 ) -> Result<(), AllocError>
     ensures lines { OnOk result (report.new.items ≡ report.old.items
-        ++ job_line peak mz done (length order.now) ++ place_lines (map (λ r. r.now) order.now)) }
+        ++ (job_line peak mz done found ++ place_lines (map (λ r. r.now) order.now))) }
     ensures kept { OnErr result (take (length report.old.items) report.new.items ≡ report.old.items) }
 {
-    push_job_line(report, peak, mz, done, order.len() as u64)?;
+    push_job_line(report, peak, mz, done, found)?;
     push_place_lines(report, order)
 }
 
@@ -175,7 +176,15 @@ pub(crate) fn in_order<'a>(
 {
     let mut order = Vec::new(alloc);
     for place in &in_places(alloc, found)? {
-        order.push(&found[*place])?;
+        order.push(entry_at(found, *place))?;
     }
     Ok(order)
+}
+
+/// The ranked formula at a place.
+fn entry_at(found: &[Ranked], place: usize) -> &Ranked
+    requires { place < length found.now }
+    ensures { result.now ≡ slice_index_or found.now place result.now }
+{
+    &found[place]
 }

@@ -78,7 +78,7 @@ impl Report {
     {
         match self {
             Report::Decompose(peaks) => {
-                let number = peaks.len() as u64 + 1;
+                let number = peaks.as_slice().len() as u64 + 1;
                 peaks.push(PeakEntry::of(alloc, table, adduct, number, mz, formulas)?)
             }
             Report::Envelope(_) | Report::Rank(_) => unreachable!(),
