@@ -42,16 +42,18 @@ stands_later : {X : Type 0} (k : ℕ) (d x : X) (xs : List X) (ps : List (ℕ ×
 stands_later k d x xs [] all = tt
 stands_later k d x xs (p ∷ ps) all =
     let at = all.0 in
-    let place : p.0 - k ≡ suc (p.0 - (k + 1)) = omega (arith, at.0) in
-    ((omega (arith, at.0), omega (arith, at.0, at.1), ap (λ (n : ℕ). get_or (x ∷ xs) n d) place ∙ at.2),
-    stands_later k d x xs ps all.1)
+    let place : p.0 - k ≡ suc (p.0 - (k + 1)) = omega (arith, at.0) in (
+      (omega (arith, at.0), omega (arith, at.0, at.1), ap (λ (n : ℕ). get_or (x ∷ xs) n d) place ∙ at.2),
+      stands_later k d x xs ps all.1,
+    )
 
 numbered_stand : {X : Type 0} (k : ℕ) (d : X) (xs : List X) → AreAll (StandsFrom k d xs) (enumerate_from k xs)
 numbered_stand k d [] = tt
 numbered_stand k d (x ∷ xs) =
-    let none : k - k ≡ 0 = omega arith in
-    ((omega arith, omega arith, ap (λ (n : ℕ). get_or (x ∷ xs) n d) none),
-    stands_later k d x xs (enumerate_from (k + 1) xs) (numbered_stand (k + 1) d xs))
+    let none : k - k ≡ 0 = omega arith in (
+      (omega arith, omega arith, ap (λ (n : ℕ). get_or (x ∷ xs) n d) none),
+      stands_later k d x xs (enumerate_from (k + 1) xs) (numbered_stand (k + 1) d xs),
+    )
 
 put_either : {X : Type 0} (P : X → Type 0) (m x : X) (xs rest : List X) (b : Bool) → P m → AreAll P (x ∷ xs)
     → AreAll P rest → AreAll P (if b then m ∷ x ∷ xs else x ∷ rest)

@@ -1,5 +1,5 @@
 -- What entries send to a writer of JSON, as the data that they are.
-use Rattle.std.proofs.Common.{◌≡◌, ℕ, suc, List, [], ◌∷◌, length, map, Bool, false, Some, refl, sym, ap, subst}
+use Rattle.std.proofs.Common.{◌≡◌, ℕ, suc, List, [], ◌∷◌, length, map, false, Some, refl, sym, ap, subst}
 use Rattle.serde.specs.Event.{Log, Logs, WritesEach, WritesSeq, seq_begins, seq_ends}
 use Rattle.serde_json.specs.Data.{Data, member, no_members, object}
 use Rattle.serde_json.specs.Events.{SendsItems, SendsValue, items_len}

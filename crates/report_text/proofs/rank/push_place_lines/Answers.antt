@@ -1,7 +1,5 @@
 use Rattle.std.proofs.Common.{◌∙◌, ap, ◌++◌, ◌+◌}
-use Rattle.std.specs.Prelude.{Bor, List, ℕ}
 use Rattle.std.specs.List.{flat_map}
-use Rattle.ranking.specs.Places.{RankedEntry}
 use Rattle.report_text.specs.RankLines.{place_line}
 use Rattle.report_text.proofs.Places.{lines_more, numbered_all, numbered_more}
 use Rattle.report_text.proofs.rank.push_place_lines.Goals as goal
