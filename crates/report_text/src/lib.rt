@@ -27,6 +27,3 @@ pub use report_lines::{
     push_decompose_head, push_decompose_line, push_envelope_head, push_envelope_text,
     push_isotopologue_line, push_peak_line,
 };
-
-#[cfg(test)]
-mod tests;
