@@ -7,7 +7,7 @@ use Rattle.mass_scaling.specs.Limits.{IsTolerance}
 use Rattle.mass_scaling.specs.declared.limits.TheConstants.{MAX_MZ}
 use Rattle.mass_scaling.specs.declared.tolerances.Tolerance.{Tolerance}
 use Rattle.mass_scaling.specs.declared.tolerances.Tolerance.TheVariants as tolerance
-use Rattle.command_words.specs.Options.{Bytes, command_of, companion, default_text, group_options, groups, kind, number, number_within, options, required_options}
+use Rattle.command_words.specs.Options.{Bytes, command_of, companion, default_number, default_text, group_options, groups, kind, number, number_within, options, required_options}
 use Rattle.command_words.specs.Uses.{Use, GivesValues, value_of}
 use Rattle.command_words.specs.declared.commands.CommandName.{CommandName}
 use Rattle.command_words.specs.declared.commands.CommandName.TheVariants as command
@@ -18,9 +18,9 @@ use Rattle.command_words.specs.declared.options.OptionName.{OptionName}
 use Rattle.command_words.specs.declared.options.OptionName.TheVariants as option
 use Rattle.command_words.specs.declared.options.ValueKind.{ValueKind}
 use Rattle.command_words.specs.declared.options.ValueKind.TheVariants.{Text}
-use Rattle.command_words.specs.declared.options.TheConstants.{MIN_MZ, MIN_COVERAGE, MAX_COVERAGE, MIN_LIMIT, MAX_LIMIT, OPTION_COUNT}
+use Rattle.command_words.specs.declared.options.TheConstants.{MIN_MZ, MIN_COVERAGE, MAX_COVERAGE, MIN_LIMIT, MAX_LIMIT, MIN_PEAK, MAX_PEAK, MIN_TURN, MAX_TURN, MAX_TURNS, MAX_NUMBER, OPTION_COUNT}
 use Rattle.command_words.specs.declared.request.Request.{Request}
-use Rattle.command_words.specs.declared.request.Request.TheVariants.{Decompose, Envelope, Check}
+use Rattle.command_words.specs.declared.request.Request.TheVariants.{Decompose, Envelope, Rank, Check, Generate}
 
 -- the value that each option is given, if it is
 abbrev pub Values : Type 0
@@ -29,6 +29,10 @@ Values = OptionName → Option Bytes
 -- the number that an option is given, in its unit and within its range
 abbrev pub number_of : Values → OptionName → Option ℕ
 number_of values option = option_and_then (number_within (kind option)) (values option)
+
+-- the number that an option is given, or else its default
+abbrev pub number_or_default : Values → OptionName → Option ℕ
+number_or_default values option = option_or (number_of values option) (default_number option)
 
 -- the text that an option is given, or else its default
 abbrev pub text_of : Values → OptionName → Option Bytes
@@ -87,8 +91,17 @@ IsRequestOf command.Envelope values (Envelope table tracer adduct formula covera
     (text_of values option.Table ≡ Some table) × (tracer ≡ values option.Tracer)
     × (text_of values option.Adduct ≡ Some adduct) × (text_of values option.Formula ≡ Some formula)
     × (number_of values option.Coverage ≡ Some coverage) × (certificate ≡ is_some (values option.Certificate))
+IsRequestOf command.Rank values (Rank table tracer peaks allowed alphabet adduct rules coverage peak turn turns) =
+    (text_of values option.Table ≡ Some table) × (tracer ≡ values option.Tracer)
+    × (text_of values option.Peaks ≡ Some peaks) × (tolerance_of values ≡ Some allowed)
+    × (text_of values option.Alphabet ≡ Some alphabet) × (text_of values option.Adduct ≡ Some adduct)
+    × (text_of values option.Rules ≡ Some rules) × (number_of values option.Coverage ≡ Some coverage)
+    × (peak ≡ number_of values option.Peak) × (number_or_default values option.Turn ≡ Some turn)
+    × (turns ≡ number_of values option.Turns)
 IsRequestOf command.Check values (Check table tracer certificate) = (text_of values option.Table ≡ Some table)
     × (tracer ≡ values option.Tracer) × (text_of values option.Certificate ≡ Some certificate)
+IsRequestOf command.Generate values (Generate table number) = (text_of values option.Table ≡ Some table)
+    × (number_of values option.Number ≡ Some number)
 IsRequestOf _ values _ = ⊥
 
 -- What the values of a command's options ask for: Words where the options that are given don't go together; or, where
@@ -138,7 +151,11 @@ HasRanges (Decompose table mass peaks allowed alphabet adduct rules limit after)
     × GoWithMass mass limit after
 HasRanges (Envelope table tracer adduct formula coverage certificate) = (MIN_COVERAGE ≤ coverage)
     × (coverage ≤ MAX_COVERAGE)
+HasRanges (Rank table tracer peaks allowed alphabet adduct rules coverage peak turn turns) = IsTolerance allowed
+    × (MIN_COVERAGE ≤ coverage) × (coverage ≤ MAX_COVERAGE) × IsWithin MIN_PEAK MAX_PEAK peak
+    × (MIN_TURN ≤ turn) × (turn ≤ MAX_TURN) × IsWithin 0 MAX_TURNS turns
 HasRanges (Check table tracer certificate) = ⊤
+HasRanges (Generate table number) = number ≤ MAX_NUMBER
 
 -- the option that a fault numbers is one of the table
 abbrev pub IsOfTable : WordsFault → Type 0

@@ -9,7 +9,9 @@ use crate::options::OptionName;
 pub(crate) enum CommandName {
     Decompose,
     Envelope,
+    Rank,
     Check,
+    Generate,
 }
 
 /// Options of which exactly one is asked.
@@ -44,11 +46,29 @@ static ENVELOPE_OPTIONS: [OptionName; 6] = [
     OptionName::Certificate,
 ];
 
+static RANK_OPTIONS: [OptionName; 13] = [
+    OptionName::Table,
+    OptionName::Tracer,
+    OptionName::Peaks,
+    OptionName::Ppm,
+    OptionName::Da,
+    OptionName::PpmCalc,
+    OptionName::Alphabet,
+    OptionName::Adduct,
+    OptionName::Rules,
+    OptionName::Coverage,
+    OptionName::Peak,
+    OptionName::Turn,
+    OptionName::Turns,
+];
+
 static CHECK_OPTIONS: [OptionName; 3] = [
     OptionName::Table,
     OptionName::Tracer,
     OptionName::Certificate,
 ];
+
+static GENERATE_OPTIONS: [OptionName; 2] = [OptionName::Table, OptionName::Number];
 
 static DECOMPOSE_REQUIRED: [OptionName; 2] = [OptionName::Table, OptionName::Alphabet];
 
@@ -58,9 +78,20 @@ static ENVELOPE_REQUIRED: [OptionName; 3] = [
     OptionName::Coverage,
 ];
 
+static RANK_REQUIRED: [OptionName; 4] = [
+    OptionName::Table,
+    OptionName::Peaks,
+    OptionName::Alphabet,
+    OptionName::Coverage,
+];
+
 static CHECK_REQUIRED: [OptionName; 2] = [OptionName::Table, OptionName::Certificate];
 
+static GENERATE_REQUIRED: [OptionName; 2] = [OptionName::Table, OptionName::Number];
+
 static DECOMPOSE_GROUPS: [OptionGroup; 2] = [OptionGroup::Sought, OptionGroup::Tolerance];
+
+static RANK_GROUPS: [OptionGroup; 1] = [OptionGroup::Tolerance];
 
 static SOUGHT_OPTIONS: [OptionName; 2] = [OptionName::Mass, OptionName::Peaks];
 
@@ -74,7 +105,9 @@ impl CommandName {
         match word.as_str() {
             "decompose" => Some(CommandName::Decompose),
             "envelope" => Some(CommandName::Envelope),
+            "rank" => Some(CommandName::Rank),
             "check" => Some(CommandName::Check),
+            "generate" => Some(CommandName::Generate),
             _ => None,
         }
     }
@@ -86,7 +119,9 @@ impl CommandName {
         match self {
             CommandName::Decompose => "decompose",
             CommandName::Envelope => "envelope",
+            CommandName::Rank => "rank",
             CommandName::Check => "check",
+            CommandName::Generate => "generate",
         }
     }
 
@@ -97,7 +132,9 @@ impl CommandName {
         match self {
             CommandName::Decompose => DECOMPOSE_OPTIONS.as_slice(),
             CommandName::Envelope => ENVELOPE_OPTIONS.as_slice(),
+            CommandName::Rank => RANK_OPTIONS.as_slice(),
             CommandName::Check => CHECK_OPTIONS.as_slice(),
+            CommandName::Generate => GENERATE_OPTIONS.as_slice(),
         }
     }
 
@@ -118,7 +155,9 @@ impl CommandName {
         match self {
             CommandName::Decompose => DECOMPOSE_REQUIRED.as_slice(),
             CommandName::Envelope => ENVELOPE_REQUIRED.as_slice(),
+            CommandName::Rank => RANK_REQUIRED.as_slice(),
             CommandName::Check => CHECK_REQUIRED.as_slice(),
+            CommandName::Generate => GENERATE_REQUIRED.as_slice(),
         }
     }
 
@@ -128,6 +167,7 @@ impl CommandName {
     {
         match self {
             CommandName::Decompose => DECOMPOSE_GROUPS.as_slice(),
+            CommandName::Rank => RANK_GROUPS.as_slice(),
             _ => &[],
         }
     }

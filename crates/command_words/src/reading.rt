@@ -4,7 +4,7 @@ ghost use Rattle.std.specs.List.{list_all};
 ghost use Rattle.reader_answers.specs.Answers.{Gives};
 ghost use Rattle.clap.specs.Words.{found_of};
 ghost use Rattle.command_words.specs.Requests.{Asks, HasRanges, IsOfTable};
-ghost use Rattle.command_words.specs.WordReading.{check_request, decompose_request, envelope_request, is_memory, is_readable, matched, request_of, values_request};
+ghost use Rattle.command_words.specs.WordReading.{check_request, decompose_request, envelope_request, generate_request, rank_request, is_memory, is_readable, matched, request_of, values_request};
 ghost use Rattle.command_words.specs.declared.fault.WordsFault.{WordsFault};
 ghost use Rattle.command_words.specs.declared.request.Request.{Request};
 
@@ -83,7 +83,9 @@ fn matched_request(
     match command {
         CommandName::Decompose => decompose_request(alloc, matches),
         CommandName::Envelope => envelope_request(alloc, matches),
+        CommandName::Rank => rank_request(alloc, matches),
         CommandName::Check => check_request(alloc, matches),
+        CommandName::Generate => generate_request(alloc, matches),
     }
 }
 
@@ -120,6 +122,26 @@ fn envelope_request(alloc: Global, matches: &ArgMatches<'_>) -> Result<Request, 
     })
 }
 
+/// The request that the values of `rank` make.
+#[tactic(auto, unfolding(crate::specs::WordReading::rank_request))]
+fn rank_request(alloc: Global, matches: &ArgMatches<'_>) -> Result<Request, WordsFault>
+    ensures { Gives is_memory result (rank_request (matched (found_of matches.now))) }
+{
+    Ok(Request::Rank {
+        table: required_text(alloc, matches, OptionName::Table)?,
+        tracer: given_text(alloc, matches, OptionName::Tracer)?,
+        peaks: required_text(alloc, matches, OptionName::Peaks)?,
+        tolerance: tolerance_of(matches).ok_or(WordsFault::Words)?,
+        alphabet: required_text(alloc, matches, OptionName::Alphabet)?,
+        adduct: required_text(alloc, matches, OptionName::Adduct)?,
+        rules: required_text(alloc, matches, OptionName::Rules)?,
+        coverage: required_number(matches, OptionName::Coverage)?,
+        peak: number_of(matches, OptionName::Peak),
+        turn: required_number(matches, OptionName::Turn)?,
+        turns: number_of(matches, OptionName::Turns),
+    })
+}
+
 /// The request that the values of `check` make.
 #[tactic(auto, unfolding(crate::specs::WordReading::check_request))]
 fn check_request(alloc: Global, matches: &ArgMatches<'_>) -> Result<Request, WordsFault>
@@ -129,5 +151,16 @@ fn check_request(alloc: Global, matches: &ArgMatches<'_>) -> Result<Request, Wor
         table: required_text(alloc, matches, OptionName::Table)?,
         tracer: given_text(alloc, matches, OptionName::Tracer)?,
         certificate: required_text(alloc, matches, OptionName::Certificate)?,
+    })
+}
+
+/// The request that the values of `generate` make.
+#[tactic(auto, unfolding(crate::specs::WordReading::generate_request))]
+fn generate_request(alloc: Global, matches: &ArgMatches<'_>) -> Result<Request, WordsFault>
+    ensures { Gives is_memory result (generate_request (matched (found_of matches.now))) }
+{
+    Ok(Request::Generate {
+        table: required_text(alloc, matches, OptionName::Table)?,
+        number: required_number(matches, OptionName::Number)?,
     })
 }

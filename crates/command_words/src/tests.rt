@@ -59,6 +59,28 @@ fn shown(rt: &impl Abort, alloc: Global, request: &Request) -> String {
             adduct.text(),
             formula.text()
         ),
+        Request::Rank {
+            table,
+            tracer,
+            peaks,
+            tolerance,
+            alphabet,
+            adduct,
+            rules,
+            coverage,
+            peak,
+            turn,
+            turns,
+        } => format!(in alloc;
+            "{} {} {} {tolerance:?} {} {} {} {coverage} {peak:?} {turn} {turns:?}",
+            table.text(),
+            text_or_dash(tracer),
+            peaks.text(),
+            alphabet.text(),
+            adduct.text(),
+            rules.text()
+        ),
+        Request::Generate { table, number } => format!(in alloc; "{} {number}", table.text()),
         Request::Check {
             table,
             tracer,
@@ -123,6 +145,15 @@ fn each_option_gives_its_field_and_defaults_the_others(rt: HostRuntime) {
             "envelope --coverage 0.9 --formula true --table t.csv --certificate",
             "t.csv - M true 900000000000000000 true",
         ),
+        (
+            "rank --table t --peaks p --ppm 2 --alphabet CH --coverage 0.9",
+            "t - p Ppm { thousandths: 2000 } CH M none 900000000000000000 None 64 None",
+        ),
+        (
+            "rank --turns 0 --turn 7 --peak 3 --table t --tracer r --peaks p --da 1 --alphabet C --coverage 0.5 --rules g",
+            "t r p Da { units: 1000000000000 } C M g 500000000000000000 Some(3) 7 Some(0)",
+        ),
+        ("generate --table t --number 1", "t 1"),
         ("check --table t --certificate c.txt", "t - c.txt"),
         (
             "check --certificate=true --tracer r.csv --table t",
@@ -160,6 +191,11 @@ fn words_that_make_no_request_are_refused(rt: HostRuntime) {
     let rows = [
         "",
         "rank",
+        "ranks --table t --peaks p --ppm 2 --alphabet CH --coverage 0.9",
+        "rank --table t --peaks p --ppm 2 --alphabet CH --coverage 0.9 --mass 1",
+        "rank --table t --peaks p --ppm 2 --alphabet CH --coverage 0.9 --limit 1",
+        "generate --table t --number -1",
+        "generate --table t --number 1 --ppm 2",
         "Decompose --table t --mass 1 --da 0 --alphabet C",
         "decompose",
         "decompose --table t --mass 1 --da 0",
@@ -226,6 +262,13 @@ fn options_that_do_not_go_together_are_refused(rt: HostRuntime) {
         "envelope --table t --coverage 0.5",
         "check --table t",
         "check --certificate c",
+        "rank --table t --ppm 2 --alphabet CH --coverage 0.9",
+        "rank --table t --peaks p --alphabet CH --coverage 0.9",
+        "rank --table t --peaks p --ppm 2 --da 1 --alphabet CH --coverage 0.9",
+        "rank --table t --peaks p --ppm 2 --coverage 0.9",
+        "rank --table t --peaks p --ppm 2 --alphabet CH",
+        "generate --table t",
+        "generate --number 1",
         "decompose --table t --mass 99999 --da 99999 --ppm 99999 --alphabet C",
         "decompose --table t --peaks p --da 0 --alphabet C --limit 0",
     ];
@@ -259,12 +302,47 @@ fn the_first_value_outside_its_range_is_told(rt: HostRuntime) {
         let given = answer(&rt, rt.alloc(), words.as_str());
         assert!(rt; matches!(given, Err(WordsFault::Value { option }) if option == number));
     }
-    for coverage in ["0", "0.9999991", "1", "0.1234567890123456789"] {
-        let words = format!(in rt.alloc();
-            "envelope --table t --formula X --coverage {coverage}"
-        ).expect(&rt, "words");
+    let others = [
+        ("envelope --table t --formula X --coverage", "0", 12),
+        ("envelope --table t --formula X --coverage", "0.9999991", 12),
+        ("envelope --table t --formula X --coverage", "1", 12),
+        (
+            "envelope --table t --formula X --coverage",
+            "0.1234567890123456789",
+            12,
+        ),
+        (
+            "rank --table t --peaks p --da 0 --alphabet C --coverage 0.5 --peak",
+            "0",
+            15,
+        ),
+        (
+            "rank --table t --peaks p --da 0 --alphabet C --coverage 0.5 --peak",
+            "10001",
+            15,
+        ),
+        (
+            "rank --table t --peaks p --da 0 --alphabet C --coverage 0.5 --turn",
+            "0",
+            16,
+        ),
+        (
+            "rank --table t --peaks p --da 0 --alphabet C --coverage 0.5 --turn",
+            "1048577",
+            16,
+        ),
+        (
+            "rank --table t --peaks p --da 0 --alphabet C --coverage 0.5 --turns",
+            "1000001",
+            17,
+        ),
+        ("generate --table t --number", "2147483648", 19),
+        ("generate --table t --number", "x", 19),
+    ];
+    for (options, value, number) in others {
+        let words = format!(in rt.alloc(); "{options} {value}").expect(&rt, "words");
         let given = answer(&rt, rt.alloc(), words.as_str());
-        assert!(rt; matches!(given, Err(WordsFault::Value { option: 12 })));
+        assert!(rt; matches!(given, Err(WordsFault::Value { option }) if option == number));
     }
 }
 
@@ -295,6 +373,16 @@ fn values_at_the_ends_of_their_ranges_are_read(rt: HostRuntime) {
             "envelope --table t --formula X --coverage 0.000000000000000001",
             "t - M X 1 false",
         ),
+        (
+            "rank --table t --peaks p --ppm 0 --alphabet C --coverage 0.5 --peak 1 --turn 1 --turns 0",
+            "t - p Ppm { thousandths: 0 } C M none 500000000000000000 Some(1) 1 Some(0)",
+        ),
+        (
+            "rank --table t --peaks p --ppm 0 --alphabet C --coverage 0.5 --peak 10000 --turn 1048576 --turns 1000000",
+            "t - p Ppm { thousandths: 0 } C M none 500000000000000000 Some(10000) 1048576 Some(1000000)",
+        ),
+        ("generate --table t --number 0", "t 0"),
+        ("generate --table t --number 2147483647", "t 2147483647"),
     ];
     for (words, fields) in rows {
         assert!(rt; asks(&rt, rt.alloc(), words, fields));
@@ -336,7 +424,11 @@ fn options_are_named_as_they_are_written(rt: HostRuntime) {
         "--coverage",
         "--limit",
         "--after",
+        "--peak",
+        "--turn",
+        "--turns",
         "--certificate",
+        "--number",
     ];
     for (place, name) in names.iter().enumerate() {
         if place < OPTION_COUNT as usize {

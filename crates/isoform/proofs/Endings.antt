@@ -9,10 +9,11 @@ use Rattle.command_words.specs.WordReading as words
 use Rattle.command_words.specs.declared.request.Request.{Request}
 use Rattle.command_words.specs.declared.fault.WordsFault.{WordsFault}
 use Rattle.command_words.specs.declared.fault.WordsFault.TheVariants as words_fault
-use Rattle.isoform.specs.Answer.{Outcome, Formulas, Cover, IsReport, answer, answer_if, answer_of_request, file_names, names_if, names_of_request}
+use Rattle.isoform.specs.Answer.{Outcome, Formulas, Cover, Ranks, Generates, IsReport, answer, answer_if, answer_of_request, file_names, names_if, names_of_request}
 use Rattle.isoform.specs.Asked.{Asked, Names, asked_as, result_as}
 use Rattle.isoform.specs.Claims.{Holds}
 use Rattle.isoform.specs.Refusals.{of_words_fault}
+use Rattle.isoform.specs.RankReports.{generate_report, rank_report}
 use Rattle.isoform.specs.Reports.{cover_report, formulas_report}
 use Rattle.isoform.specs.Outside.{AnswersAs, Ending, EndsAs, IsPut, IsTold, NoWordsFault, OnlyReads, Outside, Puts, Reads, ReceivesSome, ReceivesSomeOf, RefusesWords, Shows, outside}
 use Rattle.isoform.specs.declared.refusal.Refusal.{Refusal}
@@ -23,6 +24,8 @@ use Rattle.isoform.proofs.PartLaws.{all_names}
 some_report : (outcome : Outcome) → (report : List ℕ) × IsReport outcome report
 some_report (Formulas query) = (formulas_report query, refl)
 some_report (Cover query) = (cover_report query, refl)
+some_report (Ranks query) = (rank_report query, refl)
+some_report (Generates query) = (generate_report query, refl)
 
 -- nothing more was received
 append_known-nil : (known : Option (List ℕ)) → known ≡ append_known known []

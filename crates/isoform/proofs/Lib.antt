@@ -9,3 +9,7 @@ pub mod CoverQueries
 pub mod PrintedMasses
 pub mod Puts
 pub mod PutLines
+pub mod ServedParts
+pub mod RankLines
+pub mod RankHolds
+pub mod MadeElements

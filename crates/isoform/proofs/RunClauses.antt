@@ -14,7 +14,7 @@ use Rattle.isoform.specs.Notes.{note_of, status_of, status_of_fault}
 use Rattle.isoform.specs.Outside.{EndsAs, IsPut, Outside, ReceivesAll, ReceivesSome, ReceivesSomeOf, RefusesWords, Shows, TellsLastName, TellsNote, status_of_result}
 use Rattle.isoform.specs.Refusals.{of_words_fault}
 use Rattle.isoform.specs.declared.input_fault.InputFault.{InputFault}
-use Rattle.isoform.specs.declared.input_fault.InputFault.TheVariants.{FileLimit, Table, Tracer, Peaks, Alphabet, Adduct, Rules, After, NotInBox, Formula, NoIon, CandidateLimit, Layer}
+use Rattle.isoform.specs.declared.input_fault.InputFault.TheVariants.{FileLimit, Table, Tracer, Peaks, NoPeak, Alphabet, Adduct, Rules, After, NotInBox, Formula, NoIon, CandidateLimit, Layer}
 use Rattle.isoform.specs.declared.refusal.Refusal.{Refusal}
 use Rattle.isoform.specs.declared.refusal.Refusal.TheVariants.{Words, Input, ReadFault, WriteFault, Memory}
 use Rattle.isoform.proofs.PartLaws.{if_some_map}
@@ -25,6 +25,7 @@ status_range (FileLimit name) = (lit≤ tt, lit≤ tt)
 status_range (Table fault) = (lit≤ tt, lit≤ tt)
 status_range (Tracer fault) = (lit≤ tt, lit≤ tt)
 status_range (Peaks fault) = (lit≤ tt, lit≤ tt)
+status_range (NoPeak peak) = (lit≤ tt, lit≤ tt)
 status_range (Alphabet fault) = (lit≤ tt, lit≤ tt)
 status_range (Adduct fault) = (lit≤ tt, lit≤ tt)
 status_range (Rules fault) = (lit≤ tt, lit≤ tt)

@@ -9,27 +9,37 @@ use Rattle.candidates.specs.Grounds.{GroundValue}
 use Rattle.command_words.specs.WordReading.{request_of}
 use Rattle.command_words.specs.declared.fault.WordsFault.{WordsFault}
 use Rattle.command_words.specs.declared.request.Request.{Request}
-use Rattle.command_words.specs.declared.request.Request.TheVariants.{Decompose, Envelope}
+use Rattle.command_words.specs.declared.request.Request.TheVariants.{Decompose, Envelope, Rank, Generate}
 use Rattle.isoform.specs.Asked.{Asked, Names, asked_as, asks_none, ◌and_then◌}
 use Rattle.isoform.specs.PageFormulas.{within_limit}
+use Rattle.peak_ranking.specs.RankQueries.{RankQuery}
 use Rattle.isoform.specs.Queries.{CoverQuery, FormulaQuery}
+use Rattle.isoform.specs.RankAnswers.{generate_names, generate_query, rank_names, rank_query}
+use Rattle.isoform.specs.RankQueries.{GenerateQuery}
+use Rattle.isoform.specs.RankReports.{generate_report, rank_report}
 use Rattle.isoform.specs.Refusals.{of_words_fault}
 use Rattle.isoform.specs.Reports.{cover_report, formulas_report}
 use Rattle.isoform.specs.Steps.{adduct_step, cover_step, ground_step, ion_step, peaks_names, peaks_step}
 use Rattle.isoform.specs.Steps.{rules_names, table_step, token_step, tracer_names, tracer_step}
 use Rattle.isoform.specs.declared.decomposition.DecomposeOptions.{DecomposeOptions}
 use Rattle.isoform.specs.declared.envelope.EnvelopeOptions.{EnvelopeOptions}
+use Rattle.isoform.specs.declared.generation.GenerateOptions.{GenerateOptions}
 use Rattle.isoform.specs.declared.input_fault.InputFault.{InputFault}
+use Rattle.isoform.specs.declared.ranked_peaks.RankOptions.{RankOptions}
 
--- what is to be printed: formulas, or a cover
+-- what is to be printed: formulas, a cover, ranked peaks, or what was found of made ones
 pub data Outcome : Type 0 where
   Formulas : FormulaQuery → Outcome
   Cover : CoverQuery → Outcome
+  Ranks : RankQuery → Outcome
+  Generates : GenerateQuery → Outcome
 
 -- the bytes are the report of an outcome
 abbrev pub IsReport : Outcome → List ℕ → Type 0
 IsReport (Formulas query) bytes = bytes ≡ formulas_report query
 IsReport (Cover query) bytes = bytes ≡ cover_report query
+IsReport (Ranks query) bytes = bytes ≡ rank_report query
+IsReport (Generates query) bytes = bytes ≡ generate_report query
 
 -- the page that is asked for: the token may be refused, and then the number of formulas
 abbrev pub page_step : GroundValue → List ℕ → Option ℕ → Option (List ℕ) → Result FormulaQuery InputFault
@@ -100,6 +110,22 @@ answer_of_request (Envelope table tracer adduct formula coverage) files =
       formula = formula;
       coverage = coverage;
     }) files)
+answer_of_request (Rank table tracer peaks tolerance alphabet adduct rules coverage peak turn turns) files =
+    asked_as Ranks (rank_query (record {
+      table = table;
+      tracer = tracer;
+      peaks = peaks;
+      tolerance = tolerance;
+      alphabet = alphabet;
+      adduct = adduct;
+      rules = rules;
+      coverage = coverage;
+      peak = peak;
+      turn = turn;
+      turns = turns;
+    }) files)
+answer_of_request (Generate table number) files =
+    asked_as Generates (generate_query (record { table = table; number = number }) files)
 
 -- the same, where the words are a request
 abbrev pub answer_if : Result Request WordsFault → Files → Asked Outcome
@@ -132,6 +158,21 @@ names_of_request (Envelope table tracer adduct formula coverage) =
       formula = formula;
       coverage = coverage;
     })
+names_of_request (Rank table tracer peaks tolerance alphabet adduct rules coverage peak turn turns) =
+    rank_names (record {
+      table = table;
+      tracer = tracer;
+      peaks = peaks;
+      tolerance = tolerance;
+      alphabet = alphabet;
+      adduct = adduct;
+      rules = rules;
+      coverage = coverage;
+      peak = peak;
+      turn = turn;
+      turns = turns;
+    })
+names_of_request (Generate table number) = generate_names (record { table = table; number = number })
 
 -- the same of words, which have none where they are no request
 abbrev pub names_if : {E : Type 0} → Result Request E → Names

@@ -1,5 +1,5 @@
 -- What holds of what a run printed: of the formulas of peaks, and of an envelope in exact weights.
-use Rattle.std.specs.Prelude.{◌≡◌, ◌≢◌, ℕ, ◌≤◌, List, [], ◌∷◌, ◌++◌, length, Option, Some, MatchOption, All, AllPairs, Contains, map, IsTrue, ◌↔◌}
+use Rattle.std.specs.Prelude.{◌≡◌, ◌≢◌, ℕ, ◌+◌, ◌≤◌, List, [], ◌∷◌, ◌++◌, length, Option, Some, MatchOption, All, AllPairs, Contains, map, IsTrue, ◌↔◌}
 use Rattle.mass_scaling.specs.Tolerances.{Within}
 use Rattle.decompose.specs.CountLists.{IsInBox, comes_after}
 use Rattle.decompose.specs.Enumeration.{lists_after}
@@ -16,7 +16,10 @@ use Rattle.multinomial_bounds.specs.Isotopologue.{isotopologue_weight, all_weigh
 use Rattle.isotopologue_sets.specs.Covers.{IsCover}
 use Rattle.isotopologue_text.specs.Isotopologues.{formula_elements}
 use Rattle.cover_certificate.specs.FormulaCovers.{CoverEntries, member_numbers}
-use Rattle.isoform.specs.Answer.{Outcome, Formulas, Cover}
+use Rattle.prediction_score.specs.Matches.{mz_at}
+use Rattle.peak_ranking.specs.RankClaims.{AreRankedParts}
+use Rattle.peak_ranking.specs.RankQueries.{RankQuery}
+use Rattle.isoform.specs.Answer.{Outcome, Formulas, Cover, Ranks, Generates}
 use Rattle.isoform.specs.PageFormulas.{asked_counts, token_counts}
 use Rattle.isoform.specs.Queries.{FormulaQuery}
 use Rattle.isoform.specs.Reports.{asked_cover}
@@ -78,7 +81,16 @@ pub record HoldsTrue (table : TableEntries) (cover : CoverEntries) : Type 0 wher
       (all_weight (formula_elements table cover.formula)))
       (map (member_numbers (formula_elements table cover.formula)) cover.layer)
 
+-- What is printed of ranked peaks: under each job the part of its list that its turns allow, by rising score; and the
+-- candidates, of which that is the first part, are exactly the formulas of the peak.
+pub record RanksTrue (query : RankQuery) : Type 0 where
+  pub parts : AreRankedParts query
+  pub all : (index : ℕ) → AreAllOfPeak query.premises (mz_at query.peaks (query.first + index))
+      (formulas_of_peak query.premises (mz_at query.peaks (query.first + index)))
+
 -- what is claimed of an outcome: the formulas of each peak are exactly those, and what its cover claims is true
 abbrev pub Holds : Outcome → Type 0
 Holds (Formulas query) = All (PrintsPeak query) query.mzs
 Holds (Cover query) = HoldsTrue query.table (asked_cover query)
+Holds (Ranks query) = RanksTrue query
+Holds (Generates query) = RanksTrue query.ranking

@@ -13,9 +13,11 @@
 
 mod decomposition;
 mod envelope;
+mod generation;
 mod input_fault;
 mod inputs;
 mod output;
+mod ranked_peaks;
 mod refusal;
 mod run;
 
@@ -25,6 +27,8 @@ use outside_ports::{FileShelf, Sink, StreamSink};
 mod envelope_tests;
 #[cfg(test)]
 mod option_tests;
+#[cfg(test)]
+mod ranking_tests;
 #[cfg(test)]
 mod tests;
 

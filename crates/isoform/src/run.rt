@@ -13,6 +13,8 @@ ghost use Rattle.isoform.specs.declared.refusal.Refusal.TheVariants.{Memory, Wri
 
 use crate::decomposition::{DecomposeOptions, Decomposition};
 use crate::envelope::{Envelope, EnvelopeOptions};
+use crate::generation::{GenerateOptions, Generation};
+use crate::ranked_peaks::{RankOptions, read_ranking, serve_ranking};
 use crate::refusal::{MEMORY_NOTE, Refusal, WRITE_FAULT_NOTE};
 use command_words::{Request, request_of};
 use outside_ports::{Shelf, Sink};
@@ -77,6 +79,40 @@ fn serve_request<H: Shelf, O: Sink>(
             };
             let envelope = Envelope::read(alloc, &options, shelf)?;
             envelope.write(alloc, out)
+        }
+        Request::Rank {
+            table,
+            tracer,
+            peaks,
+            tolerance,
+            alphabet,
+            adduct,
+            rules,
+            coverage,
+            peak,
+            turn,
+            turns,
+        } => {
+            let options = RankOptions {
+                table,
+                tracer,
+                peaks,
+                tolerance,
+                alphabet,
+                adduct,
+                rules,
+                coverage,
+                peak,
+                turn,
+                turns,
+            };
+            let ranking = read_ranking(alloc, &options, shelf)?;
+            serve_ranking(alloc, &ranking, out)
+        }
+        Request::Generate { table, number } => {
+            let options = GenerateOptions { table, number };
+            let generation = Generation::read(alloc, &options, shelf)?;
+            generation.serve(alloc, out)
         }
     }
 }

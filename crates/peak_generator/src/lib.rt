@@ -16,3 +16,6 @@ mod peaks;
 pub use draws::{Draws, MAX_NUMBER};
 pub use formulas::made_formulas;
 pub use peaks::{MADE_INTENSITY, made_peaks};
+
+#[cfg(test)]
+mod tests;

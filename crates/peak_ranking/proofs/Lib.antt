@@ -1,0 +1,5 @@
+pub mod JobCounts
+pub mod PlayedJobs
+pub mod DoneJobs
+pub mod RankedParts
+pub mod StopsMet
