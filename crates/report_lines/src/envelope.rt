@@ -1,12 +1,14 @@
 //! The lines of the report of a cover.
-ghost use Rattle.std.specs.Prelude.{◌≡◌, ◌++◌, length, take, All, IfOk, OnOk, OnErr};
+ghost use Rattle.std.specs.Prelude.{◌≡◌, ◌<◌, ◌++◌, length, take, slice_index_or, All, IfOk, OnOk, OnErr};
+ghost use Rattle.cover_certificate.specs.FormulaCovers.{MemberEntry};
 ghost use Rattle.std.specs.List.{flat_map};
 ghost use Rattle.report_lines.specs.ReportLines.{IsPrintedWith, cover_members};
-ghost use Rattle.report_lines.specs.ReportLines.{envelope_head, isotopologue_line, envelope_text};
+ghost use Rattle.report_lines.specs.ReportLines.{envelope_head, head_lines, isotopologue_line, envelope_text};
 
 use crate::line::{cut_unless_pushed, push_line};
 use crate::word::{Word, ion_mass_word};
-use cover_certificate::{Cover, CoverMember};
+use cover_certificate::{Cover, CoverMember, NumberedCover};
+use formula_text::Formula;
 use std::alloc::{AllocError, Global};
 
 /// The five lines above the isotopologues of a cover: its formula, coverage, size, bound and threshold.
@@ -18,38 +20,60 @@ pub fn envelope_head(alloc: Global, cover: &Cover) -> Result<Vec<u8>, AllocError
     Ok(text)
 }
 
+/// The same lines of a cover whose members get their texts one at a time.
+pub fn numbered_head(alloc: Global, cover: &NumberedCover) -> Result<Vec<u8>, AllocError>
+    ensures { IfOk result (λ text. text.items ≡ envelope_head cover.now) }
+{
+    let mut text = Vec::new(alloc);
+    push_head_lines(
+        &mut text,
+        cover.formula(),
+        cover.coverage(),
+        cover.size(),
+        cover.bound(),
+        cover.threshold(),
+    )?;
+    Ok(text)
+}
+
 /// Appends the five lines above the isotopologues of a cover. Without room for them the report stays as it was.
 pub fn push_envelope_head(report: &mut Vec<u8>, cover: &Cover) -> Result<(), AllocError>
     ensures lines { OnOk result (report.new.items ≡ report.old.items ++ envelope_head cover.now) }
     ensures refused { OnErr result (report.new.items ≡ report.old.items) }
 {
     let start = report.len();
-    let pushed = push_head_lines(report, cover);
+    let pushed = push_head_lines(
+        report,
+        cover.formula(),
+        cover.coverage(),
+        cover.size(),
+        cover.bound(),
+        cover.threshold(),
+    );
     cut_unless_pushed(report, start, pushed)
 }
 
 /// Appends the five lines above the isotopologues of a cover, or as many as there is room for.
-fn push_head_lines(report: &mut Vec<u8>, cover: &Cover) -> Result<(), AllocError>
-    ensures lines { OnOk result (report.new.items ≡ report.old.items ++ envelope_head cover.now) }
+fn push_head_lines(
+    report: &mut Vec<u8>,
+    formula: &Formula,
+    coverage: u64,
+    size: u64,
+    bound: u64,
+    threshold: u64,
+) -> Result<(), AllocError>
+    ensures lines { OnOk result (
+        report.new.items ≡ report.old.items ++ head_lines formula.now coverage size bound threshold) }
     ensures kept { OnErr result (take (length report.old.items) report.new.items ≡ report.old.items) }
 {
     push_line(
         report,
-        &[
-            Word::Text(b"envelope"),
-            Word::Formula(cover.formula().items()),
-        ],
+        &[Word::Text(b"envelope"), Word::Formula(formula.items())],
     )?;
-    push_line(
-        report,
-        &[Word::Text(b"coverage"), Word::Number(cover.coverage())],
-    )?;
-    push_line(report, &[Word::Text(b"size"), Word::Number(cover.size())])?;
-    push_line(report, &[Word::Text(b"bound"), Word::Number(cover.bound())])?;
-    push_line(
-        report,
-        &[Word::Text(b"threshold"), Word::Number(cover.threshold())],
-    )
+    push_line(report, &[Word::Text(b"coverage"), Word::Number(coverage)])?;
+    push_line(report, &[Word::Text(b"size"), Word::Number(size)])?;
+    push_line(report, &[Word::Text(b"bound"), Word::Number(bound)])?;
+    push_line(report, &[Word::Text(b"threshold"), Word::Number(threshold)])
 }
 
 /// The line of an isotopologue: its text, its mass with the shift added, in 10^-12 Da, and the bounds of its
@@ -85,6 +109,38 @@ pub fn push_isotopologue_line(
         &[
             Word::Text(b"isotopologue"),
             Word::Text(member.text()),
+            ion_mass_word(mass),
+            Word::Number(enclosure.lo),
+            Word::Number(enclosure.hi),
+        ],
+    )
+}
+
+/// Appends the line of the member at a place of a cover whose members get their texts one at a time, as
+/// [`isotopologue_line`] gives it. The text is made in `text`, which is used again. Without room for it the report
+/// stays as it was.
+pub fn push_numbered_line(
+    report: &mut Vec<u8>,
+    text: &mut Vec<u8>,
+    cover: &NumberedCover,
+    place: usize,
+    shift: i128,
+) -> Result<(), AllocError>
+    requires within { place < length cover.now.layer }
+    requires printed { (d : MemberEntry) → IsPrintedWith shift (slice_index_or cover.now.layer place d) }
+    ensures line { OnOk result ((d : MemberEntry) → report.new.items
+        ≡ report.old.items ++ isotopologue_line shift (slice_index_or cover.now.layer place d)) }
+    ensures refused { OnErr result (report.new.items ≡ report.old.items) }
+{
+    text.clear();
+    cover.push_text(place, text)?;
+    let mass = i128::from(cover.mass(place)) + shift;
+    let enclosure = cover.enclosure(place);
+    push_line(
+        report,
+        &[
+            Word::Text(b"isotopologue"),
+            Word::Text(text.as_slice()),
             ion_mass_word(mass),
             Word::Number(enclosure.lo),
             Word::Number(enclosure.hi),

@@ -1,14 +1,17 @@
 -- What the numbers of the formula's elements claim holds of the cover that has them.
-use Rattle.std.proofs.Common.{◌≡◌, List, Result, Ok, Err, ◌∙◌, sym, ap, subst, All, rules}
-use Rattle.reader_answers.specs.Answers.{Gives, GivesAs}
+use Rattle.std.proofs.Common.{◌≡◌, List, length, map, Result, Ok, Err, ◌∙◌, sym, ap, subst, All, rules}
+use Rattle.std.proofs.lemmas.List.{length-map}
+use Rattle.reader_answers.specs.Answers.{Gives}
 use Rattle.multinomial_bounds.specs.Bounds.{IsEnclosure}
 use Rattle.multinomial_bounds.specs.Isotopologue.{Element, IsIsotopologue, isotopologue_weight, all_weight}
 use Rattle.isotopologue_sets.specs.Covers.{CoverNumbers, IsCover}
 use Rattle.reaching_layer.specs.declared.fault.CoverFault.{CoverFault}
 use Rattle.reaching_layer.specs.LayerAnswers.{is_memory, numbers_unless_too_many}
 use Rattle.isotopologue_text.specs.Isotopologues.{formula_elements}
-use Rattle.cover_certificate.specs.FormulaCovers.{CoverEntries, NumberedEntries, with_texts, cover_unless_too_many}
+use Rattle.cover_certificate.specs.FormulaCovers.{CoverEntries, member_entry, member_numbers, printed_member, cover_unless_too_many}
+use Rattle.isotopologue_text.specs.Printed.{Printed, printed_isotopes}
 use Rattle.cover_certificate.proofs.CoverAnswers.{cover_answer, fault_answer}
+use Rattle.cover_certificate.proofs.PrintedMembers.{numbers_of_entries, entries_of_formula, printed_are_entries, are_printed_with}
 use Rattle.cover_certificate.proofs.numbered.numbered_cover_of.Goals as goal
 use Rattle.cover_certificate.proofs.numbered.numbered_cover_of.Goals.{In_ok-numbers}
 
@@ -18,44 +21,67 @@ reaching_layer-requires-clause-elements c = rw c.deref.ensures.value c.in_ok-ele
 elements : (c : In_ok-numbers) → c.deref.result.now ≡ formula_elements c.args.table.now c.args.formula.now
 elements c = c.deref.ensures.value ∙ c.in_ok-elements.ensures.elements
 
+isotopologues : (c : In_ok-numbers) →
+    All (λ m. IsIsotopologue (formula_elements c.args.table.now c.args.formula.now) m.counts) c.in_ok-numbers.numbers.members
+isotopologues c =
+    let P : List Element → Type 0 = λ es. All (λ m. IsIsotopologue es m.counts) c.in_ok-numbers.numbers.members in
+    subst P (elements c) c.in_ok-numbers.ensures.isotopologues
+
+-- the numbers of the printed members
+numbers : (c : In_ok-numbers) →
+    map (member_numbers (formula_elements c.args.table.now c.args.formula.now))
+    (map (member_entry c.args.table.now c.args.formula.now) c.in_ok-numbers.numbers.members)
+    ≡ c.in_ok-numbers.numbers.members
+numbers c = numbers_of_entries c.args.table.now c.args.formula.now c.in_ok-numbers.numbers.members (isotopologues c)
+
+-- the members as they are printed
+printed : (c : In_ok-numbers) (isotopes : Printed) →
+    isotopes ≡ printed_isotopes c.args.table.now c.args.formula.now →
+    map (printed_member isotopes) c.in_ok-numbers.numbers.members
+    ≡ map (member_entry c.args.table.now c.args.formula.now) c.in_ok-numbers.numbers.members
+printed c isotopes is =
+    rw is (printed_are_entries c.args.table.now c.args.formula.now c.in_ok-numbers.numbers.members)
+
+pub invariant_of-result : goal.invariant_of-result
+invariant_of-result c = ?
+
 pub returns-clause-cover : goal.returns-clause-cover
 returns-clause-cover c =
     let at = (goal.at.returns-clause-cover c).In_ok-numbers in
     let P : List Element → Type 0 = λ es. numbers_unless_too_many es c.args.coverage ≡ Ok c.in_ok-numbers.numbers in
     let same : c.in_ok-clone.field-0 ≡ c.args.formula.now = c.in_ok-clone.ensures.cases in
-    rw same
+    rw (same, printed at c.in_ok-of.field-0 c.in_ok-of.ensures)
     (cover_answer c.args.table.now c.args.formula.now c.args.coverage c.in_ok-numbers.numbers
     (subst P (elements at) c.in_ok-numbers.ensures.cover))
 
 pub returns-clause-isotopologues : goal.returns-clause-isotopologues
 returns-clause-isotopologues c =
     let at = (goal.at.returns-clause-isotopologues c).In_ok-numbers in
-    let P : List Element → Type 0 = λ es. All (λ m. IsIsotopologue es m.counts) c.in_ok-numbers.numbers.members in
-    subst P (elements at) c.in_ok-numbers.ensures.isotopologues
+    rw (printed at c.in_ok-of.field-0 c.in_ok-of.ensures)
+    (entries_of_formula c.args.table.now c.args.formula.now c.in_ok-numbers.numbers.members (isotopologues at))
 
 pub returns-clause-claims : goal.returns-clause-claims
 returns-clause-claims c =
     let at = (goal.at.returns-clause-claims c).In_ok-numbers in
     let n = c.in_ok-numbers.numbers in
     let P : List Element → Type 0 = λ es. IsCover es c.args.coverage n.size n.bound n.members in
-    subst P (elements at) c.in_ok-numbers.ensures.claims
+    rw (printed at c.in_ok-of.field-0 c.in_ok-of.ensures, numbers at)
+    (subst P (elements at) c.in_ok-numbers.ensures.claims)
 
 pub returns-clause-encloses : goal.returns-clause-encloses
 returns-clause-encloses c =
     let at = (goal.at.returns-clause-encloses c).In_ok-numbers in
     let P : List Element → Type 0 = λ es. All (λ m.
     IsEnclosure m.lo m.hi (isotopologue_weight es m.counts) (all_weight es)) c.in_ok-numbers.numbers.members in
-    subst P (elements at) c.in_ok-numbers.ensures.encloses
+    rw (printed at c.in_ok-of.field-0 c.in_ok-of.ensures, numbers at) (subst P (elements at) c.in_ok-numbers.ensures.encloses)
 
 pub returns-in_err-numbers-clause-cover : goal.returns-in_err-numbers-clause-cover
 returns-in_err-numbers-clause-cover c =
     let fault = c.in_err-numbers.field-0.0 in
-    let P : List Element → Type 0 = λ es.
-    Gives {A = CoverNumbers} is_memory (Err fault) (numbers_unless_too_many es c.args.coverage) in
+    let P : List Element → Type 0 = λ es. Gives {A = CoverNumbers} is_memory (Err fault) (numbers_unless_too_many es c.args.coverage) in
     let given : P (formula_elements c.args.table.now c.args.formula.now) =
     subst P (c.deref.ensures.value ∙ c.in_ok-elements.ensures.elements) c.in_err-numbers.ensures.cover in
-    let Q : Result NumberedEntries CoverFault → Type 0 = λ r.
-    GivesAs (with_texts c.args.table.now) is_memory r
-    (cover_unless_too_many c.args.table.now c.args.formula.now c.args.coverage) in
+    let Q : Result CoverEntries CoverFault → Type 0 = λ r.
+    Gives is_memory r (cover_unless_too_many c.args.table.now c.args.formula.now c.args.coverage) in
     let is : c.from_residual-in_err-numbers.result ≡ Err fault = search rules in
     subst Q (sym is) (fault_answer c.args.table.now c.args.formula.now c.args.coverage fault given)
