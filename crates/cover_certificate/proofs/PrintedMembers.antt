@@ -1,10 +1,11 @@
 -- Members with their texts and masses have the numbers that they had.
-use Rattle.std.proofs.Common.{◌≡◌, ◌<◌, ◌≤◌, ℕ, List, [], ◌∷◌, length, map, get_or, sum, refl, sym, ◌∙◌, ap, subst, All, append-nil, arith}
+use Rattle.std.specs.Prelude.{Result, Ok, Err, OnOk}
+use Rattle.std.proofs.Common.{◌≡◌, ◌<◌, ◌≤◌, ◌++◌, ℕ, List, [], ◌∷◌, length, map, get_or, sum, refl, sym, ◌∙◌, ap, subst, All, append-nil, arith}
 use Rattle.std.specs.List.{concat}
 use Rattle.std.proofs.lemmas.List.{length-map, get_or-map}
 use Rattle.std.proofs.lemmas.List.Elements.{All-nil, All-cons, All-head, All-tail}
 use Rattle.multinomial_bounds.specs.Isotopologue.{Element, IsIsotopologue}
-use Rattle.isotopologue_sets.specs.Covers.{Member}
+use Rattle.isotopologue_sets.specs.Covers.{Member, CoverNumbers}
 use Rattle.reaching_layer.specs.CountsByElement.{counts_by_element}
 use Rattle.reaching_layer.proofs.MemberRowLaws.{counts_by_element-concat, lengths-IsIsotopologue}
 use Rattle.element_table.specs.Elements.{TableEntries}
@@ -13,40 +14,52 @@ use Rattle.formula_text.specs.Formulas.{atoms_of}
 use Rattle.isotopologue_text.specs.Isotopologues.{formula_elements, IsIsotopologueOf}
 use Rattle.isotopologue_text.specs.Printed.{Printed, printed_isotopes, printed_text, printed_mass}
 use Rattle.isotopologue_text.proofs.CountsLemmas.{counts-agree, counts-few}
-use Rattle.cover_certificate.specs.FormulaCovers.{MemberEntry, ArePrintedWith, member_entry, member_numbers, printed_member}
+use Rattle.cover_certificate.specs.FormulaCovers.{MemberEntry, CoverEntries, ArePrintedWith, member_entry, member_numbers, printed_member, printed_cover}
 
-none : Member
+pub none : Member
 none = record { counts = []; lo = 0; hi = 0 }
 
--- the member at a place of a layer, as it is printed
-module _ (printed : Printed) (ms : List Member) (place : ℕ) (d : MemberEntry) (within : place < length (map (printed_member printed) ms)) where
-  pub inside : place < length ms
-  inside = subst (λ n. place < n) (length-map ms (printed_member printed)) within
+-- the member at a place of a cover's layer, as it is printed
+module _ (formula : List (Item × ℕ)) (coverage : ℕ) (printed : Printed) (numbers : CoverNumbers) (cover : CoverEntries)
+    (seen : printed_cover formula coverage printed numbers ≡ cover) (place : ℕ) (within : place < length cover.layer) where
+  pub inside : place < length numbers.members
+  inside =
+      subst (λ n. place < n) (length-map numbers.members (printed_member printed))
+      (subst (λ (c : CoverEntries). place < length c.layer) (sym seen) within)
 
-  at : get_or (map (printed_member printed) ms) place d ≡ printed_member printed (get_or ms place none)
-  at = get_or-map (printed_member printed) ms place none d inside
+  at : (d : MemberEntry) → printed_member printed (get_or numbers.members place none) ≡ get_or cover.layer place d
+  at d =
+      sym (get_or-map (printed_member printed) numbers.members place none d inside)
+      ∙ ap (λ (c : CoverEntries). get_or c.layer place d) seen
 
-  pub counts_at : concat (get_or ms place none).counts ≡ (get_or (map (printed_member printed) ms) place d).counts
+  pub counts_at : (d : MemberEntry) → concat (get_or numbers.members place none).counts ≡ (get_or cover.layer place d).counts
   unfolding printed_member
-  counts_at = ap (λ (m : MemberEntry). m.counts) (sym at)
+  counts_at d = ap (λ (m : MemberEntry). m.counts) (at d)
 
-  pub text_at : printed_text printed (concat (get_or ms place none).counts)
-      ≡ (get_or (map (printed_member printed) ms) place d).text
+  pub text_at : (d : MemberEntry) → printed_text printed (concat (get_or numbers.members place none).counts)
+      ≡ (get_or cover.layer place d).text
   unfolding printed_member
-  text_at = ap (λ (m : MemberEntry). m.text) (sym at)
+  text_at d = ap (λ (m : MemberEntry). m.text) (at d)
 
-  pub mass_at : printed_mass printed (concat (get_or ms place none).counts)
-      ≡ (get_or (map (printed_member printed) ms) place d).mass
+  pub mass_at : (d : MemberEntry) → printed_mass printed (concat (get_or numbers.members place none).counts)
+      ≡ (get_or cover.layer place d).mass
   unfolding printed_member
-  mass_at = ap (λ (m : MemberEntry). m.mass) (sym at)
+  mass_at d = ap (λ (m : MemberEntry). m.mass) (at d)
 
-  pub lo_at : (get_or ms place none).lo ≡ (get_or (map (printed_member printed) ms) place d).lo
+  pub lo_at : (d : MemberEntry) → (get_or numbers.members place none).lo ≡ (get_or cover.layer place d).lo
   unfolding printed_member
-  lo_at = ap (λ (m : MemberEntry). m.lo) (sym at)
+  lo_at d = ap (λ (m : MemberEntry). m.lo) (at d)
 
-  pub hi_at : (get_or ms place none).hi ≡ (get_or (map (printed_member printed) ms) place d).hi
+  pub hi_at : (d : MemberEntry) → (get_or numbers.members place none).hi ≡ (get_or cover.layer place d).hi
   unfolding printed_member
-  hi_at = ap (λ (m : MemberEntry). m.hi) (sym at)
+  hi_at d = ap (λ (m : MemberEntry). m.hi) (at d)
+
+-- a text that was appended is that of the member, whichever name it has
+pub text_told : {E : Type 0} (r : Result (Unit {0}) E) (new old text : List ℕ) (layer : List MemberEntry) (place : ℕ) →
+    OnOk r (new ≡ old ++ text) → ((d : MemberEntry) → text ≡ (get_or layer place d).text) →
+    OnOk r ((d : MemberEntry) → new ≡ old ++ (get_or layer place d).text)
+text_told (Ok done) new old text layer place told same = λ d. told ∙ ap (λ t. old ++ t) (same d)
+text_told (Err fault) new old text layer place told same = told
 
 module _ (table : TableEntries) (formula : List (Item × ℕ)) where
   -- the counts of a member, element after element, are an isotopologue of the formula
