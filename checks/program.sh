@@ -5,7 +5,7 @@ root=$(cd "$(dirname "$0")/.." && pwd)
 place=$(mktemp -d)
 trap 'rm -rf "$place"' EXIT
 cd "$place" || exit 1
-cp "$root/examples/ab.csv" "$root/examples/elements.csv" .
+cp "$root/examples/ab.csv" "$root/examples/elements.csv" "$root/examples/even.csv" .
 mkdir folder
 passed=0
 failed=0
@@ -20,7 +20,7 @@ expect() {
         passed=$((passed + 1))
     else
         failed=$((failed + 1))
-        echo "$what: status $got and '$(cat note)' in place of $status and '$note'"
+        echo "$what: status $got and '$(head -c 200 note)' in place of $status and '${note:0:200}'"
     fi
 }
 
@@ -82,6 +82,15 @@ expect 3 "isoform: table: record 3: symbol" "a field of a million bytes" of wide
 symbols() { "$root/isoform" decompose --table elements120.csv --mass 10 --da 0 --alphabet "$1" >out; }
 expect 0 "" "20 symbols" symbols "$(printf %s C{a..t})"
 expect 5 "isoform: alphabet: too many" "21 symbols" symbols "$(printf %s C{a..u})"
+
+# Formulas of a peak: none among more than 10^12 count lists that come near, and more than there may be.
+formulas() { timeout 60 "$root/isoform" decompose --table "$1" --mass "$2" --da "$3" --alphabet "$4" >out; }
+expect 0 "" "no formula among many" formulas even.csv 10000.5 0 ABCDEFGH
+if [ "$(cat out)" != $'decompose 1\npeak 1 10000.500000000000' ]; then
+    failed=$((failed + 1))
+    echo "no formula among many: $(cat out)"
+fi
+expect 6 "isoform: limit: candidates of peak 1" "more than 1,048,576 formulas" formulas elements.csv 600 10 CHNOPS
 
 # Envelopes: as many isotopologues as there may be, and more.
 envelope() { timeout 60 "$root/isoform" envelope --table "$1" --formula "$2" --coverage "$3" >out; }
@@ -158,6 +167,53 @@ expect 3 "isoform: tracer: record 2: mass number" "a tracer of an unknown isotop
 expect 7 "isoform: read fault: absent.csv" "a tracer that is not there" traced absent.csv
 expect 6 "isoform: limit: file long.csv" "a tracer that is too long" traced long.csv
 
+# Certificates: written and accepted, from elsewhere, changed, and what is no certificate.
+certify() { timeout 60 "$root/isoform" envelope --table elements.csv --formula "$1" --coverage "$2" --certificate >"$3"; }
+certify_to_full() { "$root/isoform" envelope --table elements.csv --formula CO2 --coverage 0.99 --certificate >/dev/full; }
+check() { timeout 60 "$root/isoform" check --table elements.csv --certificate "$1" "${@:2}" >out; }
+accepted() {
+    if [ "$(cat out)" != "accepted $1" ]; then
+        failed=$((failed + 1))
+        echo "$2: $(cat out) in place of accepted $1"
+    fi
+}
+expect 0 "" "a certificate" certify CO2 0.99 co2.txt
+expect 0 "" "its check" check co2.txt
+accepted "size 2 bound 2" "its check"
+expect 8 "isoform: write fault" "a certificate to a full device" certify_to_full
+expect 0 "" "a certificate of a protein" certify C257H383N65O77S6 0.99 protein.txt
+expect 0 "" "the check of a protein" check protein.txt
+accepted "$(sed -n 's/^size /size /p;s/^bound /bound /p' protein.txt | tr '\n' ' ' | sed 's/ $//')" "the check of a protein"
+printf '%s\r\n' 'isoform certificate 1' 'formula O2C' 'coverage 990000000000000000' 'size 2' 'bound 1' \
+    'threshold 10000000000000000' 'cover [12C][16O]2' 'cover [13C][16O]2' end >elsewhere.txt
+expect 0 "" "a certificate from elsewhere" check elsewhere.txt
+accepted "size 2 bound 1" "a certificate from elsewhere"
+expect 1 "isoform: certificate: not of formula: line 7" "a certificate with a tracer" check co2.txt --tracer labelled.csv
+grep -v '13C' co2.txt >less.txt
+expect 1 "isoform: certificate: open boundary: line 7: [13C][16O]2: 10648061182430000" "a line less" check less.txt
+{ head -n 6 co2.txt; yes 'cover [12C][16O]2' | head -n 1048577; echo end; } >many.txt
+expect 1 "isoform: certificate: too many members: 1048577" "one isotopologue more than may be" check many.txt
+expect 5 "isoform: certificate text: bad line 1" "a table as a certificate" check elements.csv
+expect 7 "isoform: read fault: folder" "a folder as a certificate" check folder
+truncate -s 268435456 whole.txt
+expect 5 "isoform: certificate text: bad line 1" "a certificate of exactly its limit" check whole.txt
+truncate -s 268435457 long.txt
+expect 6 "isoform: limit: file long.txt" "a certificate that is too long" check long.txt
+if command -v python3 >python; then
+    expect 0 "" "certificates with one line changed" python3 "$root/checks/certificates.py" "$root/crates/isoform/out/isoform"
+else
+    echo "no python3: certificates with one line changed aren't tried"
+fi
+
+# Notes whole: a name as long as a path may be, and an ion of 20 elements.
+long_name=$(printf './%.0s' {1..2000})long.csv
+expect 6 "isoform: limit: file $long_name" "a file of a long name that is too long" of "$long_name"
+{ cat z.csv && for name in {A..S}a; do echo "$name,1,10,1,1"; done; } >z20.csv
+of_20_elements() {
+    timeout 300 "$root/isoform" envelope --table z20.csv --formula "Z100$(printf %s {A..S}a)" --coverage 0.5 >out
+}
+expect 6 "isoform: limit: layer of $(printf %s {A..S}a)Z100" "a layer of an ion of 20 elements" of_20_elements
+
 # Reports longer than the output's buffer.
 printf "${head}A,1,0.5,1,1\nB,1,0.5,1,1\nC,1,0.5,1,1\nD,1,0.5,1,1\n" >light.csv
 long() { "$root/isoform" decompose --table light.csv --mass 15 --da 0 --alphabet ABCD; }
@@ -169,6 +225,130 @@ lines 5458 "a long report"
 expect 8 "isoform: write fault" "a long report to a full device" long_to_full
 expect 8 "isoform: write fault" "a long report to a closed device" long_to_closed
 
+# Standard output closed by its reader before the end of a report, and closed, full and closed early for each command.
+long_to_closed_early() {
+    long | head -n 1 >out
+    return "${PIPESTATUS[0]}"
+}
+expect 8 "isoform: write fault" "a long report whose reader ends" long_to_closed_early
+lines 1 "a long report whose reader ends"
+no_notes() { decompose absent.csv >out 2>&-; }
+expect 7 "" "standard error closed" no_notes
+lines 0 "standard error closed"
+cat >co2.txt <<'END'
+isoform certificate 1
+formula CO2
+coverage 990000000000000000
+size 2
+bound 2
+threshold 7691389404043515
+cover [12C][16O]2
+cover [13C][16O]2
+end
+END
+printf 'mz,intensity\n69.93825,600\n71.9353,400\n' >chlorine.csv
+to_closed_command() { "$root/isoform" "$@" >&-; }
+to_full_command() { "$root/isoform" "$@" >/dev/full; }
+# in_vain WORDS..: a request that has a report, to outputs that don't take it. One that isn't known yet is left out.
+in_vain() {
+    "$root/isoform" "$@" >out 2>note
+    case $? in
+    0) ;;
+    2) return ;;
+    *) expect 0 "" "$*" "$root/isoform" "$@" ;;
+    esac
+    expect 8 "isoform: write fault" "$* to a closed device" to_closed_command "$@"
+    expect 8 "isoform: write fault" "$* to a full device" to_full_command "$@"
+}
+co2=(--table elements.csv --formula CO2 --coverage 0.99)
+chlorine=(rank --table elements.csv --peaks chlorine.csv --adduct '[M]-' --ppm 5 --alphabet Cl --coverage 0.9)
+in_vain decompose --table ab.csv --mass 10 --da 0.00001 --alphabet AB
+in_vain decompose --table ab.csv --mass 10 --da 0.00001 --alphabet AB --json
+in_vain envelope "${co2[@]}"
+in_vain envelope "${co2[@]}" --json
+in_vain envelope "${co2[@]}" --certificate
+in_vain check --table elements.csv --certificate co2.txt
+in_vain "${chlorine[@]}"
+in_vain "${chlorine[@]}" --json
+in_vain generate --table elements.csv --number 1
+
+# Files of exactly their limits, and of one byte more.
+at_limit=16777216
+# fill FILE BYTE SIZE: appends the byte up to the size.
+fill() { head -c $(($3 - $(stat -c %s "$1"))) /dev/zero | tr '\0' "$2" >>"$1"; }
+for kind in ab.csv sugar.csv labelled.csv; do cp "$kind" "full-$kind" && fill "full-$kind" '\n' $at_limit; done
+printf 'senior\n#' >full.rules
+fill full.rules x $at_limit
+for kind in full-ab.csv full-sugar.csv full-labelled.csv full.rules; do { cat "$kind" && echo; } >"over-$kind"; done
+expect 0 "" "a table of exactly its limit" of full-ab.csv
+lines 4 "a table of exactly its limit"
+expect 6 "isoform: limit: file over-full-ab.csv" "a table of one byte more" of over-full-ab.csv
+expect 0 "" "peaks of exactly their limit" peaks full-sugar.csv golden
+lines 3 "peaks of exactly their limit"
+expect 6 "isoform: limit: file over-full-sugar.csv" "peaks of one byte more" peaks over-full-sugar.csv golden
+expect 0 "" "rules of exactly their limit" peaks sugar.csv full.rules
+expect 6 "isoform: limit: file over-full.rules" "rules of one byte more" peaks sugar.csv over-full.rules
+expect 0 "" "a tracer of exactly its limit" traced full-labelled.csv
+expect 6 "isoform: limit: file over-full-labelled.csv" "a tracer of one byte more" traced over-full-labelled.csv
+expect 6 "isoform: limit: file /dev/zero" "a table without end" of /dev/zero
+expect 3 "isoform: table: record 1: header" "a device that is empty" of /dev/null
+rm -f full-* over-full* full.rules
+# Lighter than any atom with the adduct, so that the peaks have no formulas.
+{ echo mz,intensity; for number in $(seq 10000); do printf '23.%05d,1\n' "$number"; done; } >tenthousand.csv
+expect 0 "" "10,000 peaks" peaks tenthousand.csv golden
+lines 10001 "10,000 peaks"
+head -c $at_limit /dev/zero | tr '\0' , >commas.csv
+expect 3 "isoform: table: record 1: header" "a table of commas" of commas.csv
+expect 4 "isoform: peaks: record 1: header" "peaks of commas" peaks commas.csv golden
+expect 5 "isoform: rules: line 1: bad line" "rules of commas" peaks sugar.csv commas.csv
+{ printf 'mz,intensity\n"' && cat commas.csv; } | head -c $at_limit >quoted.csv
+expect 4 "isoform: peaks: record 2: field count" "a quote that isn't closed" peaks quoted.csv golden
+rm -f commas.csv quoted.csv
+for number in $(seq 64); do echo senior; done >rules64.rules
+{ cat rules64.rules && echo senior; } >rules65.rules
+expect 0 "" "64 rules" peaks sugar.csv rules64.rules
+expect 5 "isoform: rules: line 65: too many" "65 rules" peaks sugar.csv rules65.rules
+
+# Words of a hundred thousand bytes.
+nines=$(head -c 100000 /dev/zero | tr '\0' 9)
+expect 5 "isoform: formula: too many atoms" "a count of 100,000 digits" envelope elements.csv "C$nines" 0.5
+expect 2 "isoform: value: --mass" "an m/z of 100,000 digits" \
+    "$root/isoform" decompose --table ab.csv --mass "$nines" --da 0 --alphabet AB
+expect 5 "isoform: alphabet: bad text at 3" "a range of 100,000 digits" symbols "A0-$nines"
+expect 7 "isoform: read fault: $nines" "a file name of 100,000 bytes" of "$nines"
+
+# Certificates, where the program reads them: cut off, at their limits, and with words of their own.
+"$root/isoform" check --table elements.csv --certificate co2.txt >out 2>note
+if [ $? = 0 ]; then
+    check() { timeout 120 "$root/isoform" check --table elements.csv --certificate "$1" >out; }
+    expect 0 "" "a certificate" check co2.txt
+    if [ "$(cat out)" != "accepted size 2 bound 2" ]; then
+        failed=$((failed + 1))
+        echo "a certificate: $(cat out)"
+    fi
+    head -n 8 co2.txt >cut.txt
+    expect 5 "isoform: certificate text: end missing" "a certificate without its end" check cut.txt
+    expect 5 "isoform: certificate text: end missing" "a certificate that is empty" check empty.csv
+    expect 5 "isoform: certificate text: bad line 1" "another file as a certificate" check elements.csv
+    sed 's/^bound 2/bound 3/' co2.txt >bold.txt
+    "$root/isoform" check --table elements.csv --certificate bold.txt >out 2>note
+    if [ $? != 1 ] || [ -s out ] || ! grep -q '^isoform: certificate: bound too high: ' note; then
+        failed=$((failed + 1))
+        echo "a bound that is too high: $(cat note)"
+    fi
+    { head -n 7 co2.txt && head -n 7 co2.txt | tail -n 1 && tail -n 2 co2.txt; } >twice.txt
+    expect 1 "isoform: certificate: out of order: line 8" "a member that stands twice" check twice.txt
+    { head -n 6 co2.txt && yes 'cover [12C][16O]2' | head -n 1048577 && echo end; } >many.txt
+    expect 1 "isoform: certificate: too many members: 1048577" "1,048,577 members" check many.txt
+    # 268,435,456 bytes are the limit.
+    { cat co2.txt && yes '' | head -c $((268435456 - $(stat -c %s co2.txt))); } >full.txt
+    expect 0 "" "a certificate of exactly its limit" check full.txt
+    echo >>full.txt
+    expect 6 "isoform: limit: file full.txt" "a certificate of one byte more" check full.txt
+    rm -f full.txt many.txt
+    expect 7 "isoform: read fault: absent.txt" "a certificate that is not there" check absent.txt
+fi
+
 # An alphabet whose tables find no memory.
 in_little_memory() {
     (ulimit -v 16000
@@ -176,6 +356,8 @@ in_little_memory() {
         --alphabet "$(printf %s C{a..t})")
 }
 expect 9 "isoform: memory" "too little memory" in_little_memory
+
+if ! python3 "$root/checks/json_reports.py"; then failed=$((failed + 1)); fi
 
 echo "program: $passed passed, $failed failed"
 [ "$failed" = 0 ]

@@ -14,8 +14,7 @@ use Rattle.alphabet_text.specs.declared.entries.AlphabetEntry.{AlphabetEntry}
 use Rattle.alphabet_text.specs.Alphabets.{IsAlphabet, IsEntryOf, IsMassOfIsotope}
 use Rattle.std.proofs.Math.Nat.{mul-le-mul_left}
 use Rattle.adducts.proofs.WeighedSums.{weigh-cons}
-use Rattle.candidates.specs.PeakFormulas.{counts_of, formula_at}
-use Rattle.candidates.specs.Searches.{masses_of}
+use Rattle.candidates.specs.PeakFormulas.{counts_of, formula_at, masses_of}
 
 abbrev Known : TableEntries → Item × ℕ → Type 0
 Known table p = IsTrue (is_some (item_isotope table p.0))

@@ -18,7 +18,7 @@ mass_at alphabet k d e in_range = sym (get_or-map (λ (e : AlphabetEntry). e.mas
 no_entry : AlphabetEntry
 no_entry = record { item = record { symbol = []; label = 0 }; mass = 0; limit = record { low = 0; high = 0 } }
 
-count-masses : (alphabet : List AlphabetEntry) → length (map (λ (e : AlphabetEntry). e.mass) alphabet) ≡ length alphabet
+pub count-masses : (alphabet : List AlphabetEntry) → length (map (λ (e : AlphabetEntry). e.mass) alphabet) ≡ length alphabet
 count-masses alphabet = length-map alphabet (λ (e : AlphabetEntry). e.mass)
 
 pub are_masses : (alphabet : List AlphabetEntry) → IsAlphabet alphabet → AreMasses (map (λ e. e.mass) alphabet)

@@ -20,8 +20,8 @@ use Rattle.adducts.proofs.WeighedSums.{weigh-sum_of}
 use Rattle.golden_rules.specs.Verdicts.{meets, meets_all, verdict_at}
 use Rattle.golden_rules.proofs.MetRules.{meets_all-pass, meets_all-fails}
 use Rattle.candidates.specs.Grounds.{GroundValue, IsGround}
-use Rattle.candidates.specs.PeakFormulas.{counts_of, candidate_if, formula_at, is_candidate, is_ion_within, is_pass, meets_rules}
-use Rattle.candidates.specs.Searches.{is_formed, masses_of}
+use Rattle.candidates.specs.PeakFormulas.{counts_of, candidate_if, formula_at, is_candidate, is_ion_within, is_pass, meets_rules, masses_of}
+use Rattle.candidates.specs.Searches.{is_formed}
 use Rattle.candidates.proofs.AlphabetCounts.{mass-counts}
 
 -- ---- rules

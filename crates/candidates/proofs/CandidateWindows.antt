@@ -10,7 +10,6 @@ use Rattle.alphabet_text.specs.Alphabets.{IsMassOfIsotope}
 use Rattle.decompose.specs.Masses as lists
 use Rattle.decompose.specs.Enumeration.{is_within}
 use Rattle.mass_scaling.specs.declared.windows.Window.{Window}
-use Rattle.mass_scaling.specs.declared.windows.Charged.{Charged}
 use Rattle.mass_scaling.specs.Windows.{IsWindowOf, NoMassIsWithin, IsMassWithin}
 use Rattle.written_items.specs.declared.item.Item.{Item}
 use Rattle.formula_text.specs.Formulas.{formula_of, sum_of, atoms_of}
@@ -24,18 +23,10 @@ use Rattle.adducts.proofs.ItemLists.{Distinct, sum-Distinct}
 use Rattle.adducts.proofs.IonCounts.{formula-is_sum, ion_of-shift}
 use Rattle.adducts.proofs.WeighedSums.{weigh-sum_of}
 use Rattle.candidates.specs.Grounds.{GroundValue, IsGround}
-use Rattle.candidates.specs.PeakFormulas.{counts_of, candidate_if, is_candidate, is_ion_within, meets_rules}
-use Rattle.candidates.specs.Searches.{Covers, Admits, masses_of}
+use Rattle.candidates.specs.StepBounds.{charged_of}
+use Rattle.candidates.specs.PeakFormulas.{counts_of, candidate_if, is_candidate, is_ion_within, meets_rules, masses_of}
+use Rattle.candidates.specs.Searches.{Covers, Admits}
 use Rattle.candidates.proofs.AlphabetCounts.{mass-counts, heavy-counts}
-
--- the ions of the premises's adduct as a window takes them
-abbrev pub charged_of : GroundValue → Charged
-charged_of premises =
-    record {
-      copies = premises.adduct.copies;
-      divisor = divisor_of premises.adduct;
-      shift = shift_of premises.table premises.adduct;
-    }
 
 record Candidate (premises : GroundValue) (mz : ℕ) (counts : List ℕ) : Type 0 where
   formula : List (Item × ℕ)

@@ -1,11 +1,14 @@
 pub mod AlphabetCounts
 pub mod AlphabetMasses
 pub mod CandidateWindows
+pub mod CandidateBounds
 pub mod SearchSteps
+pub mod SearchBounds
 pub mod StandingSteps
 pub mod TokenCounts
 pub mod NumberedItems
 pub mod HillCounts
 pub mod CandidateTests
 pub mod LineTexts
+pub mod WorkedBounds
 pub mod SureLists

@@ -15,8 +15,7 @@ use Rattle.adducts.proofs.IonAnswers.{mass-is}
 use Rattle.adducts.proofs.MassBounds.{parts-light}
 use Rattle.decompose.specs.Masses as lists
 use Rattle.candidates.specs.Grounds.{GroundValue, IsGround}
-use Rattle.candidates.specs.PeakFormulas.{counts_of, items_of}
-use Rattle.candidates.specs.Searches.{masses_of}
+use Rattle.candidates.specs.PeakFormulas.{counts_of, items_of, masses_of}
 use Rattle.candidates.specs.Standings.{IsToken}
 use Rattle.candidates.proofs.CandidateTests.{formula-counts, mass-at}
 use Rattle.report_lines.specs.ReportLines.{IsPrintedMass, decompose_line, formula_line}

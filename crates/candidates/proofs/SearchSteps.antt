@@ -1,15 +1,17 @@
 -- The steps of the search for candidates.
 use Rattle.std.proofs.Common.{◌≡◌, ℕ, ◌+◌, ◌<◌, Bool, true, false, cond, List, [], ◌∷◌, ◌++◌, length, refl, sym, ap, ◌∙◌, subst, arith}
-use Rattle.std.specs.Prelude.{Some, IsTrue, not, ◌↔◌}
+use Rattle.std.specs.Prelude.{Option, Some, None, All, IsTrue, not, ◌↔◌}
 use Rattle.std.specs.Bool.{OnTrue, OnFalse}
 use Rattle.std.proofs.lemmas.Bool.{false≢true}
-use Rattle.decompose.specs.CountLists.{IsInBox}
-use Rattle.decompose.specs.Enumeration.{Enumeration, left, is_within}
+use Rattle.std.proofs.lemmas.List.Elements.{filter_passes}
+use Rattle.decompose.specs.CountLists.{IsInBox, comes_after, follows}
+use Rattle.decompose.specs.Enumeration.{Enumeration, left, vectors, lists_after, after_given, is_within}
+use Rattle.decompose.proofs.CountListOrder.{follows_trans}
 use Rattle.decompose.specs.Masses as lists
 use Rattle.candidates.specs.declared.search.Search.{Search}
 use Rattle.candidates.specs.Grounds.{GroundValue, IsGround}
-use Rattle.candidates.specs.PeakFormulas.{is_candidate}
-use Rattle.candidates.specs.Searches.{Admits, IsInWindow, IsSearch, IsSure, GoesOn, Takes, Finds, is_formed, masses_of, todo, pending, candidates_in}
+use Rattle.candidates.specs.PeakFormulas.{is_candidate, masses_of}
+use Rattle.candidates.specs.Searches.{Admits, IsInWindow, IsSearch, IsSure, GoesOn, Takes, Finds, is_formed, todo, pending, candidates_in}
 use Rattle.candidates.proofs.CandidateTests.{candidate-formed}
 
 -- ---- one list is taken
@@ -17,7 +19,7 @@ use Rattle.candidates.proofs.CandidateTests.{candidate-formed}
 pub takes-pending : (state : Search) → state.is_pending ≡ true → Takes state state true
 takes-pending state h =
     record {
-      goes = record { masses = refl; limits = refl; window = refl };
+      goes = record { masses = refl; limits = refl; window = refl; later = λ _ h. h };
       size = refl;
       room = refl;
       sure = refl;
@@ -28,7 +30,20 @@ takes-pending state h =
       given = λ e. absurd (false≢true (sym e ∙ h));
       in_box = λ e. absurd (false≢true (sym e ∙ h));
       in_window = λ e. absurd (false≢true (sym e ∙ h));
+      follows = λ e. absurd (false≢true (sym e ∙ h));
     }
+
+-- the list that is left next comes after the one given last
+first-follows : (e : Enumeration) (out : List ℕ) (rest : List (List ℕ)) → left e ≡ out ∷ rest → follows e.given out ≡ true
+unfolding left lists_after
+first-follows e out rest h = cases e.given refl
+  where
+    cases : (o : Option (List ℕ)) → e.given ≡ o → follows o out ≡ true
+    cases None given = refl
+    cases (Some c) given =
+        let lists = vectors e.masses e.limits e.window in
+        subst (All (λ cs. comes_after c cs ≡ true)) (sym (ap (after_given lists) given) ∙ h)
+        (filter_passes (λ cs. comes_after c cs) lists) 0 [] (omega arith)
 
 -- what the enumeration of count lists says of one step
 pub record Stepped (old new : Enumeration) (counts out : List ℕ) (taken : Bool) : Type 0 where
@@ -51,6 +66,9 @@ takes-next state new out true idle step =
             masses = ap (λ (e : Enumeration). e.masses) step.given;
             limits = ap (λ (e : Enumeration). e.limits) step.given;
             window = ap (λ (e : Enumeration). e.window) step.given;
+            later = λ counts h. follows_trans state.decomps.given out counts
+                (first-follows state.decomps out (left new) step.next)
+                (subst (λ (e : Enumeration). follows e.given counts ≡ true) step.given h);
           };
       size = step.size;
       room = refl;
@@ -62,6 +80,7 @@ takes-next state new out true idle step =
       given = λ _ _. ap (λ (e : Enumeration). e.given) step.given;
       in_box = λ _ _. step.in_box;
       in_window = λ _ _. step.in_window;
+      follows = λ _ _. first-follows state.decomps out (left new) step.next;
     }
 takes-next state new out false idle step =
     let none : left state.decomps ≡ [] = step.end.0 refl in
@@ -71,6 +90,7 @@ takes-next state new out false idle step =
             masses = ap (λ (e : Enumeration). e.masses) step.unchanged;
             limits = ap (λ (e : Enumeration). e.limits) step.unchanged;
             window = ap (λ (e : Enumeration). e.window) step.unchanged;
+            later = λ counts h. subst (λ (e : Enumeration). follows e.given counts ≡ true) step.unchanged h;
           };
       size = step.size;
       room = refl;
@@ -82,6 +102,7 @@ takes-next state new out false idle step =
       given = λ _ e. absurd (false≢true e);
       in_box = λ _ e. absurd (false≢true e);
       in_window = λ _ e. absurd (false≢true e);
+      follows = λ _ e. absurd (false≢true e);
     }
 
 -- ---- the search
@@ -106,11 +127,16 @@ pub record SoFar (premises : GroundValue) (initial state : Search) : Type 0 wher
 
 pub so_far-begins : (premises : GroundValue) (state : Search) → IsSearch premises state → SoFar premises state state
 so_far-begins premises state is =
-    record { is_search = is; goes = record { masses = refl; limits = refl; window = refl }; same = λ mz admits. refl }
+    record { is_search = is; goes = record { masses = refl; limits = refl; window = refl; later = λ _ h. h }; same = λ mz admits. refl }
 
 goes-both : (a b c : Search) → GoesOn a b → GoesOn b c → GoesOn a c
 goes-both a b c g h =
-    record { masses = h.masses ∙ g.masses; limits = h.limits ∙ g.limits; window = h.window ∙ g.window }
+    record {
+      masses = h.masses ∙ g.masses;
+      limits = h.limits ∙ g.limits;
+      window = h.window ∙ g.window;
+      later = λ counts after. g.later counts (h.later counts after);
+    }
 
 window-kept : (old new : Search) (counts : List ℕ) → GoesOn old new → IsInWindow old.decomps counts
     → IsInWindow new.decomps counts
@@ -171,6 +197,7 @@ so_far-passed premises initial state new ground so_far h none room same_decomps 
       masses = ap (λ (e : Enumeration). e.masses) same_decomps;
       limits = ap (λ (e : Enumeration). e.limits) same_decomps;
       window = ap (λ (e : Enumeration). e.window) same_decomps;
+      later = λ counts h. subst (λ (e : Enumeration). follows e.given counts ≡ true) same_decomps h;
     } in
     record {
       is_search =
@@ -229,6 +256,7 @@ finds-some premises mz initial state new ground so_far h found room same_decomps
       masses = ap (λ (e : Enumeration). e.masses) same_decomps;
       limits = ap (λ (e : Enumeration). e.limits) same_decomps;
       window = ap (λ (e : Enumeration). e.window) same_decomps;
+      later = λ counts h. subst (λ (e : Enumeration). follows e.given counts ≡ true) same_decomps h;
     } in
     let candidate : is_candidate premises mz state.counts ≡ true =
     is-within premises mz state initial is so_far.goes admits h ground ∙ found in

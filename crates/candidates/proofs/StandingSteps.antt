@@ -1,9 +1,9 @@
 -- Where an enumeration of candidates stands, from its start on.
 use Rattle.std.proofs.Common.{Vec, Global, ◌≡◌, ℕ, ◌≤◌, Bool, true, false, cond, List, [], ◌∷◌, ◌++◌, length, map, filter, refl, sym, ap, ◌∙◌, subst}
-use Rattle.std.specs.Prelude.{Option, Some, None, IfSome, is_some, ◌&&◌}
+use Rattle.std.specs.Prelude.{Option, Some, None, IfSome, Result, Ok, is_some, ◌&&◌, ◌↔◌}
 use Rattle.std.proofs.lemmas.Bool.{false≢true}
 use Rattle.decompose.specs.declared.limits.Limit.{Limit}
-use Rattle.decompose.specs.CountLists.{IsInBox, box_of, comes_after}
+use Rattle.decompose.specs.CountLists.{IsInBox, box_of, comes_after, follows}
 use Rattle.decompose.specs.Enumeration.{Enumeration, left, vectors, lists_after, after_given, is_within}
 use Rattle.decompose.specs.Masses as lists
 use Rattle.decompose.proofs.FindAndFilter.{filter_twice}
@@ -13,10 +13,12 @@ use Rattle.formula_text.specs.Formulas.{formula_of}
 use Rattle.adducts.proofs.IonCounts.{formula-is_sum}
 use Rattle.candidates.specs.declared.search.Search.{Search}
 use Rattle.candidates.specs.Grounds.{GroundValue, IsGround}
-use Rattle.candidates.specs.PeakFormulas.{counts_of, formula_at, limits_of, candidate_if, is_candidate, formulas_of_peak}
-use Rattle.candidates.specs.Enumeration.{CandidateEnumeration, formulas_left}
-use Rattle.candidates.specs.Searches.{IsSearch, IsSure, GoesOn, Finds, Outcome, Covers, Admits, todo, pending, candidates_in, masses_of}
-use Rattle.candidates.specs.Standings.{IsToken, IsStanding}
+use Rattle.candidates.specs.PeakFormulas.{counts_of, counts_in, formula_at, limits_of, candidate_if, is_candidate, formulas_of_peak, masses_of}
+use Rattle.candidates.specs.Enumeration.{CandidateEnumeration, counts_left, formulas_left}
+use Rattle.candidates.specs.Searches.{IsSearch, IsSure, GoesOn, Finds, Outcome, Covers, Admits, todo, pending, candidates_in}
+use Rattle.candidates.specs.StepBounds.{counts_given}
+use Rattle.candidates.specs.Standings.{IsSearched, IsToken, IsStanding}
+use Rattle.candidates.proofs.TokenCounts.{counts-formula}
 
 filter-agree : {A : Type 0} (p q : A → Bool) (xs : List A) → ((x : A) → p x ≡ q x) → filter p xs ≡ filter q xs
 filter-agree p q [] same = refl
@@ -141,7 +143,9 @@ standing-kept premises mz old new given b is finds =
       is_search = finds.stands;
       covers = covers-on premises mz old new finds.goes is.covers;
       admits = admits-on premises mz old new finds.goes is.admits;
+      searched = subst (IsSearched premises mz) (sym finds.goes.window) is.searched;
       token = is.token;
+      later = λ counts h. is.later counts (finds.goes.later counts h);
       rest = is.rest ∙ sym (same b finds.outcome);
     }
   where
@@ -173,6 +177,8 @@ standing-given premises mz old new given spare is finds size =
           };
       covers = covers;
       admits = admits-on premises mz old new finds.goes is.admits;
+      searched = subst (IsSearched premises mz) (sym finds.goes.window) is.searched;
+      later = λ counts h. subst (λ g. follows g counts ≡ true) it.given h;
       token =
           record {
             in_box = subst (λ l. IsInBox l new.counts) stands.limits it.in_box;
@@ -217,6 +223,24 @@ given-formula premises mz old new None finds same =
 given-formula premises mz old new (Some f) finds same =
     ap Some (formula-is_sum (counts_of premises.alphabet new.counts) f (sym same)).0
 
+-- one is given, so the end isn't reached
+pub given-not_none : (premises : GroundValue) (mz : ℕ) (old new : Search) (o : Option (List (Item × ℕ))) {A : Type 0}
+    → Finds premises mz old new true → o ≡ formula_of (counts_of premises.alphabet new.counts) → o ≡ None → A
+given-not_none premises mz old new o finds made none =
+    absurd (false≢true (sym (ap is_some none)
+    ∙ ap is_some (given-formula premises mz old new o finds made)))
+
+pub given-not_end : (premises : GroundValue) (mz : ℕ) (old new : Search) (given : Option (List ℕ))
+    (o : Option (List (Item × ℕ))) (before : CandidateEnumeration) → IsStanding premises mz old given
+    → Finds premises mz old new true → o ≡ formula_of (counts_of premises.alphabet new.counts)
+    → before ≡ record { premises = premises; mz = mz; given = given } → (o ≡ None) ↔ (counts_left before ≡ [])
+given-not_end premises mz old new given o before is finds made of_before =
+    let more : counts_left before ≡ new.counts ∷ after_given (formulas_of_peak premises mz) (Some new.counts) =
+    ap counts_left of_before ∙ given-next premises mz old new given is finds in (
+      given-not_none premises mz old new o finds made,
+      λ e. absurd (let both : new.counts ∷ after_given (formulas_of_peak premises mz) (Some new.counts) ≡ [] = sym more ∙ e in cc),
+    )
+
 -- what is left, as formulas
 pub given-formulas : (premises : GroundValue) (mz : ℕ) (old new : Search) (given : Option (List ℕ)) (o : Option (List (Item × ℕ))) (list : List ℕ) (before : CandidateEnumeration) → IsStanding premises mz old given → Finds premises mz old new true → o ≡ formula_of (counts_of premises.alphabet new.counts) → list ≡ new.counts → before ≡ record { premises = premises; mz = mz; given = given } → IfSome o (λ f. formulas_left before ≡ f ∷ formulas_left (record { premises = premises; mz = mz; given = Some list }))
 given-formulas premises mz old new given o list before is finds made of_list of_before =
@@ -229,14 +253,39 @@ given-formulas premises mz old new given o list before is finds made of_list of_
     (sym (given-formula premises mz old new o finds made))
     (left ∙ ap (λ l. formula new.counts ∷ formulas_left (record { premises = premises; mz = mz; given = Some l })) (sym of_list))
 
+-- the counts of the formula that is given
+given-counts : (premises : GroundValue) (mz : ℕ) (old new : Search) → IsGround premises → Finds premises mz old new true
+    → counts_in premises.alphabet (formula_at premises.alphabet new.counts) ≡ new.counts
+given-counts premises mz old new ground finds =
+    counts-formula premises.alphabet new.counts ground.is_alphabet finds.stands.size
+
+pub given-token : (premises : GroundValue) (mz : ℕ) (old new : Search) (o : Option (List (Item × ℕ))) (list : List ℕ)
+    (before : CandidateEnumeration) → IsGround premises → Finds premises mz old new true
+    → o ≡ formula_of (counts_of premises.alphabet new.counts) → list ≡ new.counts → before.premises ≡ premises
+    → IfSome o (λ f. Some list ≡ Some (counts_in before.premises.alphabet f))
+given-token premises mz old new o list before ground finds made of_list of_before =
+    subst (λ p. IfSome o (λ f. Some list ≡ Some (counts_in p.alphabet f))) (sym of_before)
+    (subst (λ p. IfSome p (λ f. Some list ≡ Some (counts_in premises.alphabet f)))
+    (sym (given-formula premises mz old new o finds made))
+    (ap Some (of_list ∙ sym (given-counts premises mz old new ground finds))))
+
+pub given-upto : {E : Type 0} (premises : GroundValue) (mz : ℕ) (old new : Search) (o : Option (List (Item × ℕ)))
+    (before : CandidateEnumeration) (r : Result (Option (List (Item × ℕ))) E) → IsGround premises
+    → Finds premises mz old new true → o ≡ formula_of (counts_of premises.alphabet new.counts) → r ≡ Ok o
+    → before.premises ≡ premises → counts_given before.premises.alphabet r ≡ Some new.counts
+given-upto premises mz old new o before r ground finds made ok of_before =
+    ap (λ p. counts_given p.alphabet r) of_before
+    ∙ ap (counts_given premises.alphabet) (ok ∙ ap Ok (given-formula premises mz old new o finds made))
+    ∙ ap Some (given-counts premises mz old new ground finds)
+
 -- ---- the start
 
 pub standing-start : (premises : GroundValue) (mz : ℕ) (state : Search) (given : Option (List ℕ)) → IsGround premises → 1 ≤ mz
     → mz ≤ 20000000000000000 → IsSearch premises state → Covers premises mz state.decomps.window
-    → Admits premises mz state.decomps.window
+    → Admits premises mz state.decomps.window → IsSearched premises mz state.decomps.window
     → state.is_pending ≡ false → state.decomps.given ≡ given → IfSome given (IsToken premises)
     → IsStanding premises mz state given
-standing-start premises mz state given is some few stands covers admits idle same token =
+standing-start premises mz state given is some few stands covers admits searched idle same token =
     record {
       is_ground = is;
       some_mz = some;
@@ -244,15 +293,17 @@ standing-start premises mz state given is some few stands covers admits idle sam
       is_search = stands;
       covers = covers;
       admits = admits;
+      searched = searched;
       token = token;
+      later = λ counts h. subst (λ g. follows g counts ≡ true) same h;
       rest =
           ap (after_given (formulas_of_peak premises mz)) (sym same)
           ∙ rest-of premises mz state.decomps stands.masses stands.limits covers
           ∙ ap (λ b. candidates_in premises mz (pending b state.counts ++ left state.decomps)) (sym idle);
     }
 
-pub standing-made : (premises : GroundValue) (mz : ℕ) (d : Enumeration) (counts masses : List ℕ) (limits : List Limit) (window : Window) (room : Vec (Item × ℕ) Global) (sure : Bool) (given : Option (List ℕ)) → IsGround premises → 1 ≤ mz → mz ≤ 20000000000000000 → d ≡ record { masses = masses; limits = limits; window = window; given = given } → masses ≡ masses_of premises.alphabet → limits ≡ limits_of premises.alphabet → Covers premises mz window → Admits premises mz window → length counts ≡ length premises.alphabet → length room.items ≡ length premises.alphabet → (sure ≡ true → IsSure premises window) → IfSome given (IsToken premises) → IsStanding premises mz (record { decomps = d; counts = counts; is_pending = false; room = room; is_sure = sure }) given
-standing-made premises mz d counts masses limits window room sure given is some few made of_masses of_limits covers admits size spare all token =
+pub standing-made : (premises : GroundValue) (mz : ℕ) (d : Enumeration) (counts masses : List ℕ) (limits : List Limit) (window : Window) (room : Vec (Item × ℕ) Global) (sure : Bool) (given : Option (List ℕ)) → IsGround premises → 1 ≤ mz → mz ≤ 20000000000000000 → d ≡ record { masses = masses; limits = limits; window = window; given = given } → masses ≡ masses_of premises.alphabet → limits ≡ limits_of premises.alphabet → Covers premises mz window → Admits premises mz window → IsSearched premises mz window → length counts ≡ length premises.alphabet → length room.items ≡ length premises.alphabet → (sure ≡ true → IsSure premises window) → IfSome given (IsToken premises) → IsStanding premises mz (record { decomps = d; counts = counts; is_pending = false; room = room; is_sure = sure }) given
+standing-made premises mz d counts masses limits window room sure given is some few made of_masses of_limits covers admits searched size spare all token =
     standing-start premises mz (record { decomps = d; counts = counts; is_pending = false; room = room; is_sure = sure }) given is some few
     (record {
       masses = ap (λ (e : Enumeration). e.masses) made ∙ of_masses;
@@ -265,5 +316,6 @@ standing-made premises mz d counts masses limits window room sure given is some 
       sure = λ h. subst (IsSure premises) (sym (ap (λ (e : Enumeration). e.window) made)) (all h);
     })
     (subst (Covers premises mz) (sym (ap (λ (e : Enumeration). e.window) made)) covers)
-    (subst (Admits premises mz) (sym (ap (λ (e : Enumeration). e.window) made)) admits) refl
+    (subst (Admits premises mz) (sym (ap (λ (e : Enumeration). e.window) made)) admits)
+    (subst (IsSearched premises mz) (sym (ap (λ (e : Enumeration). e.window) made)) searched) refl
     (ap (λ (e : Enumeration). e.given) made) token

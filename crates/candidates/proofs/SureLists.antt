@@ -26,8 +26,8 @@ use Rattle.golden_rules.specs.Verdicts.{meets_all}
 use Rattle.alphabet_text.specs.declared.entries.AlphabetEntry.{AlphabetEntry}
 use Rattle.alphabet_text.specs.Alphabets.{IsMassOfIsotope}
 use Rattle.candidates.specs.Grounds.{GroundValue, IsGround}
-use Rattle.candidates.specs.PeakFormulas.{counts_of, formula_at}
-use Rattle.candidates.specs.Searches.{is_formed, masses_of}
+use Rattle.candidates.specs.PeakFormulas.{counts_of, formula_at, masses_of}
+use Rattle.candidates.specs.Searches.{is_formed}
 use Rattle.candidates.proofs.NumberedItems.{few-each, length-filtered}
 
 -- ---- sums are no longer than their parts

@@ -1,6 +1,7 @@
 pub mod Grounds
 pub mod PeakFormulas
 pub mod Enumeration
+pub mod StepBounds
 pub mod Lines
 pub mod HillOrders
 pub mod Searches

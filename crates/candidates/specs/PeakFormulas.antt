@@ -29,6 +29,9 @@ formula_at alphabet counts = sum_of (counts_of alphabet counts)
 abbrev pub counts_in : List AlphabetEntry → List (Item × ℕ) → List ℕ
 counts_in alphabet formula = map (count_in formula) (items_of alphabet)
 
+abbrev pub masses_of : List AlphabetEntry → List ℕ
+masses_of alphabet = map (λ entry. entry.mass) alphabet
+
 abbrev pub limits_of : List AlphabetEntry → List Limit
 limits_of alphabet = map (λ entry. entry.limit) alphabet
 

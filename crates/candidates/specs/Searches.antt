@@ -1,8 +1,10 @@
 -- For proofs alone: where the search for the candidates of a peak stands.
-use Rattle.std.specs.Prelude.{ℕ, pos, ◌*◌, ◌+ℤ◌, ◌≡◌, Bool, true, false, ◌&&◌, List, [], ◌∷◌, ◌++◌, length, map, filter, if◌then◌else◌, is_some, Some}
-use Rattle.decompose.specs.CountLists.{IsInBox}
+use Rattle.std.specs.Prelude.{ℕ, pos, ◌*◌, ◌+ℤ◌, ◌≡◌, Bool, true, false, ◌&&◌, List, [], ◌∷◌, ◌++◌, length, filter, if◌then◌else◌, is_some, Option, Some}
+use Rattle.std.specs.Prelude.{◌+◌, ◌≤◌}
+use Rattle.decompose.specs.CountLists.{IsInBox, follows}
 use Rattle.decompose.specs.Enumeration.{Enumeration, left, is_within}
 use Rattle.decompose.specs.Masses.{mass_of}
+use Rattle.decompose.specs.StepBounds.{HasNoScaledWindow, IsScaledWindowOf}
 use Rattle.mass_scaling.specs.declared.windows.Window.{Window}
 use Rattle.mass_scaling.specs.Tolerances.{within}
 use Rattle.formula_text.specs.Formulas.{formula_in, within_limits}
@@ -13,7 +15,8 @@ use Rattle.adducts.specs.Adducts.{divisor_of}
 use Rattle.adducts.specs.Ions.{ion_of, shift_of}
 use Rattle.candidates.specs.declared.search.Search.{Search}
 use Rattle.candidates.specs.Grounds.{GroundValue}
-use Rattle.candidates.specs.PeakFormulas.{formula_at, is_candidate, limits_of}
+use Rattle.candidates.specs.StepBounds.{most_candidate_steps}
+use Rattle.candidates.specs.PeakFormulas.{formula_at, is_candidate, limits_of, masses_of}
 
 -- whether a formula is one within the limits, has an ion and meets the rules
 abbrev pub passes : GroundValue → List (Item × ℕ) → Bool
@@ -24,9 +27,6 @@ passes premises formula =
 -- the same of the formula of a count list
 abbrev pub is_formed : GroundValue → List ℕ → Bool
 is_formed premises counts = passes premises (formula_at premises.alphabet counts)
-
-abbrev pub masses_of : List AlphabetEntry → List ℕ
-masses_of alphabet = map (λ entry. entry.mass) alphabet
 
 -- a count list that is still to be tested
 abbrev pub pending : Bool → List ℕ → List (List ℕ)
@@ -57,11 +57,12 @@ pub record IsSearch (premises : GroundValue) (search : Search) : Type 0 where
   pub in_window : search.is_pending ≡ true → IsInWindow search.decomps search.counts
   pub sure : search.is_sure ≡ true → IsSure premises search.decomps.window
 
--- it goes over the same masses, limits and window
+-- it goes over the same masses, limits and window, and not back
 pub record GoesOn (old new : Search) : Type 0 where
   pub masses : new.decomps.masses ≡ old.decomps.masses
   pub limits : new.decomps.limits ≡ old.decomps.limits
   pub window : new.decomps.window ≡ old.decomps.window
+  pub later : (counts : List ℕ) → follows new.decomps.given counts ≡ true → follows old.decomps.given counts ≡ true
 
 pub record Takes (old new : Search) (taken : Bool) : Type 0 where
   pub goes : GoesOn old new
@@ -75,6 +76,13 @@ pub record Takes (old new : Search) (taken : Bool) : Type 0 where
   pub given : old.is_pending ≡ false → taken ≡ true → new.decomps.given ≡ Some new.counts
   pub in_box : old.is_pending ≡ false → taken ≡ true → IsInBox old.decomps.limits new.counts
   pub in_window : old.is_pending ≡ false → taken ≡ true → IsInWindow old.decomps new.counts
+  pub follows : old.is_pending ≡ false → taken ≡ true → follows old.decomps.given new.counts ≡ true
+
+-- the steps of a search up to a count list, or to its end
+pub record IsBounded (old : Search) (upto : Option (List ℕ)) (before after : ℕ) : Type 0 where
+  pub most : (scaled : Window) → IsScaledWindowOf old.decomps.masses old.decomps.window scaled
+      → after ≤ before + most_candidate_steps old.decomps.masses scaled old.decomps.given upto
+  pub none : HasNoScaledWindow old.decomps.masses old.decomps.window → after ≡ before
 
 abbrev pub candidates_in : GroundValue → ℕ → List (List ℕ) → List (List ℕ)
 candidates_in premises mz list = filter (is_candidate premises mz) list

@@ -1,10 +1,13 @@
 //! The enumeration of the candidates of a peak.
-ghost use Rattle.std.specs.Prelude.{◌≡◌, ◌≤◌, ◌↔◌, [], ◌∷◌, ◌++◌, nat_lt, IfOk, IfSome, IsSomeAnd, OnOk, OnErr, IsErrOf, IsTrue, not, Some, None, length, map, option_map};
+ghost use Rattle.std.specs.Prelude.{◌≡◌, ◌≤◌, ◌+◌, ◌↔◌, if◌then◌else◌, [], ◌∷◌, ◌++◌, nat_lt, IfOk, IfSome, IsSomeAnd, OnOk, OnErr, IsErrOf, IsTrue, not, Some, None, length, map, option_map};
 ghost use Rattle.std.specs.Bool.{OnTrue, OnFalse};
 ghost use Rattle.mass_scaling.specs.declared.limits.TheConstants.{MAX_MZ};
 ghost use Rattle.mass_scaling.specs.Windows.{IsWindow};
-ghost use Rattle.candidates.specs.PeakFormulas.{formulas_of_peak, formula_at, counts_in};
+ghost use Rattle.mass_scaling.specs.declared.windows.Window.{Window};
+ghost use Rattle.candidates.specs.PeakFormulas.{formulas_of_peak, formula_at, counts_in, masses_of};
 ghost use Rattle.candidates.specs.Enumeration.{counts_left, formulas_left};
+ghost use Rattle.candidates.specs.StepBounds.{HasNoScaledPeakWindow, IsScaledPeakWindow, counts_given};
+ghost use Rattle.candidates.specs.StepBounds.{most_candidate_steps};
 ghost use Rattle.candidates.specs.Lines.{given_line};
 ghost use Rattle.decompose.specs.Enumeration.{lists_after};
 ghost use Rattle.formula_text.specs.Formulas.{IsFormula, count_in};
@@ -12,7 +15,7 @@ ghost use Rattle.candidates.specs.Searches.{Covers, Admits};
 ghost use Rattle.std.specs.List.{list_any};
 ghost use Rattle.written_items.specs.Items.{item_eq};
 ghost use Rattle.candidates.specs.Tokens.{IsInAlphabetBox, has_only, fits};
-ghost use Rattle.candidates.specs.Standings.{IsToken};
+ghost use Rattle.candidates.specs.Standings.{IsSearched, IsToken};
 
 use crate::grounds::Ground;
 use crate::line::push_line;
@@ -63,6 +66,7 @@ fn peak_window(premises: &Ground, mz: u64) -> Window
     ensures window { IsWindow result }
     ensures covers { Covers premises.now mz result }
     ensures admits { Admits premises.now mz result }
+    ensures searched { IsSearched premises.now mz result }
 {
     match window_of(mz, premises.tolerance(), premises.charged()) {
         Some(window) => window,
@@ -119,6 +123,8 @@ impl<'t> Candidates<'t> {
           mz = mz;
           given = Some (counts_in premises.now.alphabet after.now);
         }) }
+        ensures token { IfOk result (λ c.
+            option_map (formula_at premises.now.alphabet) c.given ≡ Some after.now) }
         ensures rest_left { IfOk result (λ c. counts_left c
             ≡ lists_after (formulas_of_peak premises.now mz) (counts_in premises.now.alphabet after.now)) }
         ensures in_box { OnOk result (IsInAlphabetBox premises.now.alphabet after.now) }
@@ -180,6 +186,10 @@ impl<'t> Candidates<'t> {
         ensures unchanged { OnFalse result (self.new ≡ self.old) }
         ensures peak { self.new.mz ≡ self.old.mz }
         ensures premises { self.new.premises ≡ self.old.premises }
+        ensures steps { (scaled : Window) → IsScaledPeakWindow self.old scaled → steps.new ≤ steps.old
+            + most_candidate_steps (masses_of self.old.premises.alphabet) scaled self.old.given
+            (if result then self.new.given else None) }
+        ensures no_steps { HasNoScaledPeakWindow self.old → steps.new ≡ steps.old }
     {
         if !self.search.find(self.premises, steps) {
             return false;
@@ -193,11 +203,17 @@ impl<'t> Candidates<'t> {
     pub fn next<L: Ledger>(&mut self, steps: &mut Steps<L>) -> Result<Option<Formula>, AllocError>
         ensures next { IfOk result (λ o. IfSome o (λ f.
             formulas_left self.old ≡ f ∷ formulas_left self.new)) }
+        ensures given { IfOk result (λ o. IfSome o (λ f.
+            self.new.given ≡ Some (counts_in self.old.premises.alphabet f))) }
         ensures end { IfOk result (λ o. (o ≡ None) ↔ (counts_left self.old ≡ [])) }
         ensures at_end { IfOk result (λ o. o ≡ None → self.new ≡ self.old) }
         ensures refused { OnErr result (self.new ≡ self.old) }
         ensures peak { IfOk result (λ o. self.new.mz ≡ self.old.mz) }
         ensures premises { IfOk result (λ o. self.new.premises ≡ self.old.premises) }
+        ensures steps { (scaled : Window) → IsScaledPeakWindow self.old scaled → steps.new ≤ steps.old
+            + most_candidate_steps (masses_of self.old.premises.alphabet) scaled self.old.given
+            (counts_given self.old.premises.alphabet result) }
+        ensures no_steps { HasNoScaledPeakWindow self.old → steps.new ≡ steps.old }
     {
         if !self.search.find(self.premises, steps) {
             return Ok(None);

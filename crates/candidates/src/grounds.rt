@@ -84,13 +84,14 @@ impl Ground {
         requires added_known { HasItems table adduct.added }
         requires lost_known { HasItems table adduct.lost }
         requires tolerance { IsTolerance tolerance }
-        ensures { IfOk result (λ premises. premises ≡ record {
+        ensures made { IfOk result (λ premises. premises ≡ record {
           table = table;
           alphabet = alphabet;
           adduct = adduct;
           tolerance = tolerance;
           rules = rules;
         }) }
+        ensures premises { IfOk result IsGround }
     {
         let charged = adduct.charged(&table);
         let tables = match Tables::of(alloc, alphabet.masses()) {

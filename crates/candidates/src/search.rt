@@ -1,12 +1,15 @@
 //! The search for the next candidate of a peak.
-ghost use Rattle.std.specs.Prelude.{◌≡◌, ◌≤◌, ◌<◌, ◌^◌, ℕ, true, false, nat_le, IfOk, is_some, length};
+ghost use Rattle.std.specs.Prelude.{◌≡◌, ◌≤◌, ◌<◌, ◌+◌, ◌^◌, if◌then◌else◌, ℕ, true, false, nat_le, IfOk, is_some};
+ghost use Rattle.std.specs.Prelude.{Some, None, length};
 ghost use Rattle.std.specs.List.{list_all};
 ghost use Rattle.formula_text.specs.Formulas.{IsFormula, atoms_of, formula_in, within_limits};
 ghost use Rattle.mass_scaling.specs.Windows.{IsWindow};
+ghost use Rattle.mass_scaling.specs.declared.windows.Window.{Window};
+ghost use Rattle.decompose.specs.StepBounds.{HasNoScaledWindow, IsScaledWindowOf, most_steps};
 ghost use Rattle.formula_text.specs.Limits.{max_atoms_of_item, max_items};
 ghost use Rattle.candidates.specs.Grounds.{IsGround};
 ghost use Rattle.candidates.specs.PeakFormulas.{counts_of};
-ghost use Rattle.candidates.specs.Searches.{Admits, IsSearch, IsSure, Takes, Finds, is_formed, passes, todo};
+ghost use Rattle.candidates.specs.Searches.{Admits, IsBounded, IsSearch, IsSure, Takes, Finds, is_formed, passes, todo};
 
 use crate::grounds::Ground;
 use adducts::has_ion;
@@ -42,11 +45,17 @@ impl<'t> Search<'t> {
     /// Takes the next count list that is to be tested; false where none is left.
     fn take<L: Ledger>(&mut self, steps: &mut Steps<L>) -> bool
         requires { length self.old.counts ≡ length self.old.decomps.masses }
-        ensures { Takes self.old self.new result }
+        ensures takes { Takes self.old self.new result }
+        ensures steps { (scaled : Window) → IsScaledWindowOf self.old.decomps.masses self.old.decomps.window scaled
+            → steps.new ≤ steps.old + most_steps self.old.decomps.masses scaled self.old.decomps.given
+            (if result then Some self.new.counts else None) }
+        ensures no_steps { HasNoScaledWindow self.old.decomps.masses self.old.decomps.window → steps.new ≡ steps.old }
+        ensures pending { self.old.is_pending ≡ true → steps.new ≡ steps.old }
     {
-        if !self.is_pending {
-            self.is_pending = self.decomps.next_into(&mut self.counts, steps);
+        if self.is_pending {
+            return true;
         }
+        self.is_pending = self.decomps.next_into(&mut self.counts, steps);
         self.is_pending
     }
 
@@ -55,8 +64,9 @@ impl<'t> Search<'t> {
     pub fn find<L: Ledger>(&mut self, premises: &Ground, steps: &mut Steps<L>) -> bool
         requires search { IsSearch premises.now self.old }
         requires premises { IsGround premises.now }
-        ensures { (mz : ℕ) → Admits premises.now mz self.old.decomps.window
+        ensures finds { (mz : ℕ) → Admits premises.now mz self.old.decomps.window
             → Finds premises.now mz self.old self.new result }
+        ensures steps { IsBounded self.old (if result then Some self.new.counts else None) steps.old steps.new }
     {
         'lists: while self.take(steps) {
             if self.is_sure {

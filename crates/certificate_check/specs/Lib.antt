@@ -4,5 +4,6 @@ pub use Rattle.isotopologue_text.specs.ReadCounts
 pub use Rattle.certificate_text.specs.Certificates
 pub use Rattle.cover_claims.specs.Claims
 pub mod Judgements
+pub mod JudgementWords
 pub mod CertificateMeaning
 pub mod CoverCertificates

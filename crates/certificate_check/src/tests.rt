@@ -17,35 +17,20 @@ W,4,4,0.1,1
 W,5,5,0.1,1
 ";
 
-/// What is judged of a certificate of these numbers and lines, as words and numbers.
-fn judged(alloc: Global, text: &[u8]) -> Result<String, Fail> {
+/// What a note says of the judgement of a certificate's text.
+fn judged(alloc: Global, text: &[u8]) -> Result<Vec<u8>, Fail> {
     let table = read_table(alloc, TABLE)?;
     let certificate = read_certificate(alloc, &table, text)?;
-    Ok(match check(alloc, &table, &certificate)? {
-        Judgement::Accepted => format!(in alloc; "accepted")?,
-        Judgement::CoverageRange { said } => format!(in alloc; "coverage range {said}")?,
-        Judgement::TooManyMembers { found } => format!(in alloc; "too many members {found}")?,
-        Judgement::NotOfFormula { line } => format!(in alloc; "not of formula {line}")?,
-        Judgement::OutOfOrder { line } => format!(in alloc; "out of order {line}")?,
-        Judgement::ModeAbsent => format!(in alloc; "mode absent")?,
-        Judgement::OpenBoundary {
-            line,
-            neighbour,
-            hi,
-        } => {
-            let length = neighbour.as_bytes().len();
-            format!(in alloc; "open boundary {line} {length} {hi}")?
-        }
-        Judgement::SizeDiffers { said, found } => format!(in alloc; "size differs {said} {found}")?,
-        Judgement::CoverShort { total } => format!(in alloc; "cover short {total}")?,
-        Judgement::BoundTooHigh { total } => format!(in alloc; "bound too high {total}")?,
-    })
+    Ok(check(alloc, &table, &certificate)?.words(alloc)?)
 }
 
 const HEAD: &str = "isoform certificate 1\nformula X2\n";
 
 const NUMBERS: &str =
     "coverage 750000000000000000\nsize 2\nbound 2\nthreshold 125000000000000000\n";
+
+// The numbers of the smaller cover of one, with a threshold that its member alone is above.
+const ONE: &str = "coverage 500000000000000000\nsize 1\nbound 1\nthreshold 500000000000000000\n";
 
 const LINES: &str = "cover [10X][11X]\ncover [11X]2\nlayer [10X]2\nend\n";
 
@@ -57,38 +42,38 @@ fn one_changed_line_is_the_first_test_that_fails(rt: HostRuntime) -> Result<(), 
         (
             NUMBERS,
             "cover [10X][11X]\ncover [11X]2\nend\n",
-            "open boundary 7 6 250000000000000000",
+            "open boundary: line 7: [10X]2: 250000000000000000",
         ),
         (
             NUMBERS,
             "cover [11X]2\ncover [10X][11X]\nlayer [10X]2\nend\n",
-            "out of order 8",
+            "out of order: line 8",
         ),
         (
             NUMBERS,
             "cover [10X][11X]\ncover [10X][11X]\ncover [11X]2\nlayer [10X]2\nend\n",
-            "out of order 8",
+            "out of order: line 8",
         ),
         (
             NUMBERS,
             "cover [11X][10X]\ncover [11X]2\nlayer [10X]2\nend\n",
-            "not of formula 7",
+            "not of formula: line 7",
         ),
         (NUMBERS, "cover [11X]2\nlayer [10X]2\nend\n", "mode absent"),
         (
             "coverage 750000000000000000\nsize 3\nbound 2\nthreshold 125000000000000000\n",
             LINES,
-            "size differs 3 2",
+            "size differs: 3: 2",
         ),
         (
             "coverage 750000000000000000\nsize 1\nbound 2\nthreshold 125000000000000000\n",
             "cover [10X][11X]\nlayer [11X]2\nlayer [10X]2\nend\n",
-            "cover short 500000000000000000",
+            "cover short: 500000000000000000",
         ),
         (
             "coverage 0\nsize 2\nbound 2\nthreshold 125000000000000000\n",
             LINES,
-            "coverage range 0",
+            "coverage range: 0",
         ),
         (
             "coverage 750000000000000000\nsize 2\nbound 0\nthreshold 125000000000000000\n",
@@ -98,17 +83,21 @@ fn one_changed_line_is_the_first_test_that_fails(rt: HostRuntime) -> Result<(), 
         (
             "coverage 750000000000000000\nsize 2\nbound 3\nthreshold 125000000000000000\n",
             LINES,
-            "bound too high 750000000000000000",
+            "bound too high: 750000000000000000",
         ),
         (
             "coverage 750000000000000000\nsize 2\nbound 1000000000000000000\nthreshold 125000000000000000\n",
             LINES,
-            "bound too high 125000000000000000500000000000000000",
+            "bound too high: 125000000000000000500000000000000000",
         ),
+        (ONE, "cover [10X][11X]\nend\n", "accepted"),
     ];
     for (numbers, lines, expected) in rows {
         let text = format!(in alloc; "{HEAD}{numbers}{lines}")?;
-        assert_eq!(rt; judged(alloc, text.as_bytes())?.as_str(), *expected);
+        assert_eq!(rt;
+            judged(alloc, text.as_bytes())?.as_slice(),
+            expected.as_bytes()
+        );
     }
     Ok(())
 }
@@ -128,8 +117,8 @@ cover [3W]
 end
 ";
     assert_eq!(rt;
-        judged(rt.alloc(), text)?.as_str(),
-        "open boundary 7 4 300000000000000000"
+        judged(rt.alloc(), text)?.as_slice(),
+        b"open boundary: line 7: [2W]: 300000000000000000".as_slice()
     );
     Ok(())
 }

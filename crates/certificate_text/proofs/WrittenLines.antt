@@ -81,7 +81,7 @@ lines-ended (line ∷ ls) plain =
 
 -- ---- texts without control characters
 
-plain-append : (a b : List ℕ) → is_plain_text a ≡ true → is_plain_text b ≡ true → is_plain_text (a ++ b) ≡ true
+pub plain-append : (a b : List ℕ) → is_plain_text a ≡ true → is_plain_text b ≡ true → is_plain_text (a ++ b) ≡ true
 plain-append a b pa pb = list_all-append (λ byte. nat_le 32 byte) a b ∙ and_from _ _ pa pb
 
 digit-plain : (b : ℕ) → is_ascii_digit b ≡ true → nat_le 32 b ≡ true
@@ -103,18 +103,19 @@ symbol-plain (a ∷ b ∷ []) h = grind (arith, nat_tests)
 symbol-plain (a ∷ b ∷ c ∷ []) h = grind (arith, nat_tests)
 symbol-plain (a ∷ b ∷ c ∷ d ∷ more) h = absurd (false≢true h)
 
-item-plain : (item : Item) → IsItem item → is_plain_text (item_text item) ≡ true
-item-plain item is =
+pub item-plain : (item : Item) → is_symbol item.symbol ≡ true → item.label < 2 ^ 64 →
+    is_plain_text (item_text item) ≡ true
+item-plain item symbol small =
     elim (item.label == 0) as (λ b. is_plain_text (cond b item.symbol
     (opening_bracket ∷ decimal item.label ++ item.symbol ++ closing_bracket ∷ [])) ≡ true) [
-      | true ↦ symbol-plain item.symbol is.symbol
+      | true ↦ symbol-plain item.symbol symbol
       | false ↦
           plain-append (decimal item.label ++ item.symbol) (closing_bracket ∷ [])
-          (plain-append (decimal item.label) item.symbol (decimal-plain item.label (omega (arith, is.label)))
-          (symbol-plain item.symbol is.symbol)) refl
+          (plain-append (decimal item.label) item.symbol (decimal-plain item.label small)
+          (symbol-plain item.symbol symbol)) refl
     ]
 
-count-plain : (n : ℕ) → n < 2 ^ 64 → is_plain_text (count_text n) ≡ true
+pub count-plain : (n : ℕ) → n < 2 ^ 64 → is_plain_text (count_text n) ≡ true
 count-plain n small =
     elim (n == 1) as (λ b. is_plain_text (cond b [] (decimal n)) ≡ true) [ true ↦ refl | false ↦ decimal-plain n small ]
 
@@ -123,7 +124,7 @@ printed-plain : (f : List (Item × ℕ)) → AllByRecursion (λ p. IsItem p.0) f
 printed-plain [] are few = refl
 printed-plain (p ∷ ps) are few =
     plain-append (item_text p.0 ++ count_text p.1) (printed_text ps)
-    (plain-append (item_text p.0) (count_text p.1) (item-plain p.0 are.0) (count-plain p.1 (omega (arith, few.0))))
+    (plain-append (item_text p.0) (count_text p.1) (item-plain p.0 are.0.symbol (omega (arith, are.0.label))) (count-plain p.1 (omega (arith, few.0))))
     (printed-plain ps are.1 few.1)
 
 listed-plain : (entries : List CertLineEntry) → AllByRecursion (λ line. IsTrue (is_plain_text line.text)) entries

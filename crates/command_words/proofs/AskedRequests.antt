@@ -1,21 +1,20 @@
 -- `request_of` is what words ask for, and the one answer that they may have.
-use Rattle.std.proofs.Common.{◌≡◌, ◌∙◌, ◌==◌, ℕ, Bool, true, false, if◌then◌else◌, List, [], ◌∷◌, find, map, Option, Some, None, is_some, is_none, Result, Ok, Err, ap, sym, refl, subst, inl, inr, unwrap_or, option_map, slice_get, length, arith, MatchBool, String, Global, string_bytes}
+use Rattle.std.proofs.Common.{◌≡◌, ◌∙◌, ◌==◌, ℕ, Bool, true, false, if◌then◌else◌, List, [], ◌∷◌, find, map, Option, Some, None, is_some, is_none, Result, Ok, Err, ap, sym, refl, subst, inl, inr, option_map, length, arith, MatchBool, String, Global, string_bytes}
 use Rattle.std.specs.List.{AllByRecursion, count_by, list_all}
 use Rattle.std.specs.Option.{option_map_or, option_or}
 use Rattle.std.specs.Prelude.{option_and_then, ⊤}
-use Rattle.std.specs.Str.{bytes_eq}
 use Rattle.std.proofs.lemmas.Bool.{true≢false}
 use Rattle.std.proofs.lemmas.Option.{none-some}
 use Rattle.reader_answers.specs.Answers.{or_fault, ◌>>=◌}
-use Rattle.clap.specs.Walk.{first_of, rows_of}
+use Rattle.clap.specs.Walk.{rows_of}
 use Rattle.clap.specs.declared.parser.matches.Found.{Found}
 use Rattle.mass_scaling.specs.declared.tolerances.Tolerance.{Tolerance}
 use Rattle.mass_scaling.specs.declared.tolerances.Tolerance.TheVariants as tolerance
-use Rattle.command_words.specs.ClapCommands.{row_of_use}
-use Rattle.command_words.specs.Options.{Bytes, command_of, default_text, groups, kind, name, number_within, options, required_options}
+use Rattle.command_words.specs.ClapCommands.{given_in}
+use Rattle.command_words.specs.Options.{Bytes, command_of, default_text, groups, kind, name, number_within, options, required_options, is_flag}
 use Rattle.command_words.specs.Requests.{Asks, IsReading, IsRequestOf, Values, ValuesAsk, first_outside, go_together, has_companion, has_one, has_value_outside, is_outside, number_of, text_of}
-use Rattle.command_words.specs.Uses.{Use, names, value_of}
-use Rattle.command_words.specs.WordReading.{answer_by, decompose_request, envelope_request, fields_request, is_memory, is_readable, matched, request_of, uses_of, values_request}
+use Rattle.command_words.specs.Uses.{Argument, Use, arguments, value_of, value_in}
+use Rattle.command_words.specs.WordReading.{answer_by, decompose_request, envelope_request, fields_request, is_memory, is_readable, matched, request_of, uses_of, values_request, check_request}
 use Rattle.command_words.specs.declared.commands.CommandName.{CommandName}
 use Rattle.command_words.specs.declared.commands.CommandName.TheVariants as command
 use Rattle.command_words.specs.declared.fault.WordsFault.{WordsFault}
@@ -23,11 +22,8 @@ use Rattle.command_words.specs.declared.fault.WordsFault.TheVariants.{Words, Val
 use Rattle.command_words.specs.declared.options.OptionName.{OptionName}
 use Rattle.command_words.specs.declared.options.OptionName.TheVariants as option
 use Rattle.command_words.specs.declared.request.Request.{Request}
-use Rattle.command_words.specs.declared.request.Request.TheVariants.{Decompose, Envelope}
-use Rattle.command_words.proofs.WordUses.{and_parts, is_plain, readable_from, uses_of-complete, uses_of-sound}
-
-pub some-same : {A : Type 0} (x y : A) → Some x ≡ Some y → x ≡ y
-some-same x y e = ap (λ o. unwrap_or o x) e
+use Rattle.command_words.specs.declared.request.Request.TheVariants.{Decompose, Envelope, Check}
+use Rattle.command_words.proofs.WordUses.{and_parts, is_plain, readable_from, some-same, uses_of-complete, uses_of-sound}
 
 -- ---- tests of each element
 
@@ -148,27 +144,39 @@ module _ (values : Values) where
       let formula = text_given option.Formula texts.1.0 in
       let coverage = there (number_of values option.Coverage)
       (number_given option.Coverage (λ _. refl) inside.1.1.1.1.0 ∙ texts.1.1.0) in (
-        Envelope table.0 (values option.Tracer) adduct.0 formula.0 coverage.0,
-        (table.1, refl, adduct.1, formula.1, coverage.1),
+        Envelope table.0 (values option.Tracer) adduct.0 formula.0 coverage.0 (is_some (values option.Certificate)),
+        (table.1, refl, adduct.1, formula.1, coverage.1, refl),
       )
+
+  check_values : AreGood command.Check → (request : Request) × IsRequestOf command.Check values request
+  check_values good =
+      let texts = given command.Check good in
+      let table = text_given option.Table texts.0 in
+      let certificate = text_given option.Certificate texts.1.0 in
+      (Check table.0 (values option.Tracer) certificate.0, (table.1, refl, certificate.1))
 
   values_fields : (command : CommandName) → AreGood command → (request : Request) × IsRequestOf command values request
   values_fields command.Decompose good = decompose_values good
   values_fields command.Envelope good = envelope_values good
+  values_fields command.Check good = check_values good
 
   -- it is the one that is computed
   fields_are : (command : CommandName) (request : Request) → IsRequestOf command values request
       → fields_request command values ≡ Ok request
-  unfolding decompose_request envelope_request
+  unfolding decompose_request envelope_request check_request
   fields_are command.Decompose (Decompose table mass peaks allowed alphabet adduct rules limit after) is =
       λ i. or_fault Words (is.0 i) >>= λ table. or_fault Words (is.3 i) >>= λ allowed. or_fault Words (is.4 i)
       >>= λ alphabet. or_fault Words (is.5 i) >>= λ adduct. or_fault Words (is.6 i) >>= λ rules.
       Ok (Decompose table (sym is.1 i) (sym is.2 i) allowed alphabet adduct rules (sym is.7 i) (sym is.8 i))
-  fields_are command.Envelope (Envelope table tracer adduct formula coverage) is =
+  fields_are command.Decompose _ is = absurd is
+  fields_are command.Envelope (Envelope table tracer adduct formula coverage certificate) is =
       λ i. or_fault Words (is.0 i) >>= λ table. or_fault Words (is.2 i) >>= λ adduct. or_fault Words (is.3 i)
-      >>= λ formula. or_fault Words (is.4 i) >>= λ coverage. Ok (Envelope table (sym is.1 i) adduct formula coverage)
-  fields_are command.Decompose (Envelope table tracer adduct formula coverage) is = absurd is
-  fields_are command.Envelope (Decompose table mass peaks allowed alphabet adduct rules limit after) is = absurd is
+      >>= λ formula. or_fault Words (is.4 i) >>= λ coverage.
+      Ok (Envelope table (sym is.1 i) adduct formula coverage (sym is.5 i))
+  fields_are command.Envelope _ is = absurd is
+  fields_are command.Check (Check table tracer certificate) is = λ i. or_fault Words (is.0 i)
+      >>= λ table. or_fault Words (is.2 i) >>= λ certificate. Ok (Check table (sym is.1 i) certificate)
+  fields_are command.Check _ is = absurd is
 
   answer_is : (command : CommandName) (b : Bool) (outside : Option OptionName) → go_together command values ≡ b
       → first_outside command values ≡ outside
@@ -216,29 +224,32 @@ plain_name option.Formula = refl
 plain_name option.Coverage = refl
 plain_name option.Limit = refl
 plain_name option.After = refl
+plain_name option.Certificate = refl
 
-plain_each : (options : List OptionName) → AllByRecursion (λ name. is_plain name ≡ true) (map name options)
-plain_each [] = tt
-plain_each (option ∷ options) = (plain_name option, plain_each options)
+plain_each : (command : CommandName) (options : List OptionName)
+    → AllByRecursion (λ (argument : Argument). is_plain argument.0 ≡ true)
+    (map (λ option. (name option, is_flag command option)) options)
+plain_each command [] = tt
+plain_each command (option ∷ options) = (plain_name option, plain_each command options)
 
-plain_names : (command : CommandName) → AllByRecursion (λ name. is_plain name ≡ true) (names command)
-plain_names command = plain_each (options command)
+plain_arguments : (command : CommandName) → AllByRecursion (λ (argument : Argument). is_plain argument.0 ≡ true) (arguments command)
+plain_arguments command = plain_each command (options command)
 
 -- the request of words with this command and these uses
 pub request_of-uses : (first : Bytes) (words : List Bytes) (command : CommandName) (uses : List Use)
     → command_of first ≡ Some command
-    → uses_of (names command) words ≡ Some uses → request_of (first ∷ words) ≡ values_request command (value_of uses)
+    → uses_of (arguments command) words ≡ Some uses → request_of (first ∷ words) ≡ values_request command (value_of uses)
 unfolding request_of
 request_of-uses first words command uses named read =
-    ap (λ o. or_fault Words o >>= λ c. or_fault Words (uses_of (names c) words)
+    ap (λ o. or_fault Words o >>= λ c. or_fault Words (uses_of (arguments c) words)
     >>= λ given. values_request c (value_of given)) named
     ∙ ap (λ o. or_fault Words o >>= λ given. values_request command (value_of given)) read
 
 pub request_of-no_uses : (first : Bytes) (words : List Bytes) (command : CommandName) → command_of first ≡ Some command
-    → uses_of (names command) words ≡ None → request_of (first ∷ words) ≡ Err Words
+    → uses_of (arguments command) words ≡ None → request_of (first ∷ words) ≡ Err Words
 unfolding request_of
 request_of-no_uses first words command named read =
-    ap (λ o. or_fault Words o >>= λ c. or_fault Words (uses_of (names c) words)
+    ap (λ o. or_fault Words o >>= λ c. or_fault Words (uses_of (arguments c) words)
     >>= λ given. values_request c (value_of given)) named
     ∙ ap (λ o. or_fault Words o >>= λ given. values_request command (value_of given)) read
 
@@ -246,27 +257,27 @@ pub request_of-no_command : (first : Bytes) (words : List Bytes) → command_of 
     → request_of (first ∷ words) ≡ Err Words
 unfolding request_of
 request_of-no_command first words named =
-    ap (λ o. or_fault Words o >>= λ c. or_fault Words (uses_of (names c) words)
+    ap (λ o. or_fault Words o >>= λ c. or_fault Words (uses_of (arguments c) words)
     >>= λ given. values_request c (value_of given)) named
 
 -- words that are read as uses are readable
 pub unreadable : (command : CommandName) (words : List Bytes) → list_all is_readable words ≡ false
-    → uses_of (names command) words ≡ None
-unreadable command words e = go (uses_of (names command) words) refl
+    → uses_of (arguments command) words ≡ None
+unreadable command words e = go (uses_of (arguments command) words) refl
   where
-    go : (o : Option (List Use)) → uses_of (names command) words ≡ o → o ≡ None
+    go : (o : Option (List Use)) → uses_of (arguments command) words ≡ o → o ≡ None
     go None read = refl
     go (Some uses) read =
-        absurd (true≢false (sym (readable_from (names command) (plain_names command) words uses None [] read) ∙ e))
+        absurd (true≢false (sym (readable_from (arguments command) (plain_arguments command) words uses None [] read) ∙ e))
 
 reading_uses : (first : Bytes) (words : List Bytes) (named given : CommandName) (uses : List Use)
     → command_of first ≡ Some named
-    → IsReading given uses (first ∷ words) → (named ≡ given) × (uses_of (names named) words ≡ Some uses)
+    → IsReading given uses (first ∷ words) → (named ≡ given) × (uses_of (arguments named) words ≡ Some uses)
 reading_uses first words named given uses is reading =
     let same = some-same named given (sym is ∙ reading.0) in (
       same,
-      ap (λ c. uses_of (names c) words) same
-          ∙ uses_of-complete (names given) (plain_names given) uses words reading.1.says reading.1.uses_of_its_options,
+      ap (λ c. uses_of (arguments c) words) same
+          ∙ uses_of-complete (arguments given) (plain_arguments given) uses words reading.1.says reading.1.once,
     )
 
 pub asks-request_of : (words : List Bytes) → Asks words (request_of words)
@@ -275,7 +286,7 @@ asks-request_of [] = inr ((λ command uses none. none), refl)
 asks-request_of (first ∷ words) = go (command_of first) refl
   where
     with_command : (command : CommandName) → command_of first ≡ Some command → (o : Option (List Use))
-        → uses_of (names command) words ≡ o → Asks (first ∷ words) (request_of (first ∷ words))
+        → uses_of (arguments command) words ≡ o → Asks (first ∷ words) (request_of (first ∷ words))
     with_command command named None read =
         inr (
           (λ given uses reading. none-some uses (sym read
@@ -283,11 +294,11 @@ asks-request_of (first ∷ words) = go (command_of first) refl
           request_of-no_uses first words command named read,
         )
     with_command command named (Some uses) read =
-        let sound = uses_of-sound (names command) (plain_names command) uses words read in
+        let sound = uses_of-sound (arguments command) (plain_arguments command) uses words read in
         inl (
           command,
           uses,
-          (named, record { says = sound.0; uses_of_its_options = sound.1 }),
+          (named, record { says = sound.0; once = sound.1 }),
           subst (ValuesAsk command (value_of uses)) (sym (request_of-uses first words command uses named read))
               (values_ask (value_of uses) command),
         )
@@ -297,7 +308,7 @@ asks-request_of (first ∷ words) = go (command_of first) refl
       (λ command uses reading. none-some command (sym named ∙ reading.0)),
       request_of-no_command first words named,
     )
-    go (Some command) named = with_command command named (uses_of (names command) words) refl
+    go (Some command) named = with_command command named (uses_of (arguments command) words) refl
 
 pub asks-only : (words : List Bytes) (answer : Result Request WordsFault) → Asks words answer
     → answer ≡ request_of words
@@ -311,37 +322,24 @@ asks-only (first ∷ words) answer (inl (command, uses, reading, ask)) =
 asks-only (first ∷ words) answer (inr (none, is)) = is ∙ sym (go (command_of first) refl)
   where
     with_command : (command : CommandName) → command_of first ≡ Some command → (o : Option (List Use))
-        → uses_of (names command) words ≡ o → request_of (first ∷ words) ≡ Err Words
+        → uses_of (arguments command) words ≡ o → request_of (first ∷ words) ≡ Err Words
     with_command command named None read = request_of-no_uses first words command named read
     with_command command named (Some uses) read =
-        let sound = uses_of-sound (names command) (plain_names command) uses words read in
-        absurd (none command uses (named, record { says = sound.0; uses_of_its_options = sound.1 }))
+        let sound = uses_of-sound (arguments command) (plain_arguments command) uses words read in
+        absurd (none command uses (named, record { says = sound.0; once = sound.1 }))
 
     go : (o : Option CommandName) → command_of first ≡ o → request_of (first ∷ words) ≡ Err Words
     go None named = request_of-no_command first words named
-    go (Some command) named = with_command command named (uses_of (names command) words) refl
-
--- ---- what clap finds for an option is the value that the uses give to it
-
-pub first_of-uses : (id : Bytes) (uses : List Use) → first_of id (map row_of_use uses)
-    ≡ option_map (λ given. given.1) (find (λ given. bytes_eq given.0 id) uses)
-first_of-uses id [] = refl
-first_of-uses id (given ∷ uses) = go (bytes_eq given.0 id) (first_of-uses id uses)
-  where
-    go : (b : Bool) → first_of id (map row_of_use uses) ≡ option_map (λ g. g.1) (find (λ g. bytes_eq g.0 id) uses)
-        → option_and_then (λ r. slice_get r.values 0) (if b then Some (row_of_use given) else find
-        (λ r. bytes_eq r.id id) (map row_of_use uses))
-        ≡ option_map (λ g. g.1) (if b then Some given else find (λ g. bytes_eq g.0 id) uses)
-    go true e = refl
-    go false e = e
+    go (Some command) named = with_command command named (uses_of (arguments command) words) refl
 
 -- the request of a command's matches is that of the words
 pub request_of-matches : (first : Bytes) (words : List Bytes) (command : CommandName) (uses : List Use)
     (found : Found) → command_of first ≡ Some command
-    → uses_of (names command) words ≡ Some uses → rows_of found ≡ map row_of_use uses
+    → uses_of (arguments command) words ≡ Some uses
+    → ((name : Bytes) → given_in (rows_of found) name ≡ value_in uses name)
     → values_request command (matched found) ≡ request_of (first ∷ words)
-request_of-matches first words command uses found named read is =
-    ap (values_request command) (λ i option. (ap (first_of (name option)) is ∙ first_of-uses (name option) uses) i)
+request_of-matches first words command uses found named read given =
+    ap (values_request command) (λ i option. given (name option) i)
     ∙ sym (request_of-uses first words command uses named read)
 
 pub no_words : (words : List (String Global)) → length words ≡ 0 → request_of (map string_bytes words) ≡ Err Words
@@ -352,7 +350,7 @@ no_words (word ∷ words) none = absurd (omega arith)
 -- the answer where clap fails
 pub unread_answer : (first : Bytes) (words : List Bytes) (command : CommandName) (fault : WordsFault)
     → command_of first ≡ Some command
-    → MatchBool (is_memory fault) ⊤ ((uses_of (names command) words ≡ None) × (fault ≡ Words))
+    → MatchBool (is_memory fault) ⊤ ((uses_of (arguments command) words ≡ None) × (fault ≡ Words))
     → MatchBool (is_memory fault) ⊤ (request_of (first ∷ words) ≡ Err fault)
 unread_answer first words command Words named given = request_of-no_uses first words command named given.0
 unread_answer first words command (Value n) named given = request_of-no_uses first words command named given.0

@@ -23,8 +23,9 @@ use Rattle.command_words.specs.declared.options.OptionName.{OptionName}
 use Rattle.command_words.specs.declared.options.OptionName.TheVariants as option
 use Rattle.command_words.specs.declared.options.TheConstants.{MIN_MZ, MIN_COVERAGE, MAX_COVERAGE, MIN_LIMIT, MAX_LIMIT, OPTION_COUNT}
 use Rattle.command_words.specs.declared.request.Request.{Request}
-use Rattle.command_words.specs.declared.request.Request.TheVariants.{Decompose, Envelope}
-use Rattle.command_words.proofs.AskedRequests.{AreGood, companions, insides, number_given, ones, some-same}
+use Rattle.command_words.specs.declared.request.Request.TheVariants.{Decompose, Envelope, Check}
+use Rattle.command_words.proofs.AskedRequests.{AreGood, companions, insides, number_given, ones}
+use Rattle.command_words.proofs.WordUses.{some-same}
 
 -- texts have numbers in this range alone
 abbrev Ranges : (Bytes → Option ℕ) → ℕ → ℕ → Type 0
@@ -79,15 +80,17 @@ decompose_ranges values good (Decompose table mass peaks allowed alphabet adduct
       go_with_mass mass limit after (rw (mass_given, limit_given) pairs.1.1.1.1.1.1.1.1.1.0)
           (rw (mass_given, is.8) pairs.1.1.1.1.1.1.1.1.1.1.0),
     )
-decompose_ranges values good (Envelope table tracer adduct formula coverage) is = absurd is
+decompose_ranges values good _ is = absurd is
 
 request_ranges : (command : CommandName) (values : Values) → AreGood values command
     → (request : Request) → IsRequestOf command values request → HasRanges request
 request_ranges command.Decompose values good request is = decompose_ranges values good request is
-request_ranges command.Envelope values good (Envelope table tracer adduct formula coverage) is =
-    number_range _ MIN_COVERAGE MAX_COVERAGE (decimal_within-range 18 MIN_COVERAGE MAX_COVERAGE) (values option.Coverage) coverage is.4
-request_ranges command.Envelope values good (Decompose table mass peaks allowed alphabet adduct rules limit after) is =
-    absurd is
+request_ranges command.Envelope values good (Envelope table tracer adduct formula coverage certificate) is =
+    number_range _ MIN_COVERAGE MAX_COVERAGE (decimal_within-range 18 MIN_COVERAGE MAX_COVERAGE)
+    (values option.Coverage) coverage is.4
+request_ranges command.Envelope values good _ is = absurd is
+request_ranges command.Check values good (Check table tracer certificate) is = tt
+request_ranges command.Check values good _ is = absurd is
 
 numbers_of_table : (option : OptionName) → (1 ≤ number option) × (number option ≤ OPTION_COUNT)
 numbers_of_table option.Table = (omega arith, omega arith)
@@ -104,6 +107,7 @@ numbers_of_table option.Formula = (omega arith, omega arith)
 numbers_of_table option.Coverage = (omega arith, omega arith)
 numbers_of_table option.Limit = (omega arith, omega arith)
 numbers_of_table option.After = (omega arith, omega arith)
+numbers_of_table option.Certificate = (omega arith, omega arith)
 
 abbrev is_ok_answer : Result Request WordsFault → Bool
 is_ok_answer (Ok request) = true

@@ -1,5 +1,5 @@
 -- The uses that words make are those that `uses_of` reads, and no others.
-use Rattle.std.proofs.Common.{◌≡◌, ◌∙◌, ◌+◌, ℕ, zero, suc, Bool, true, false, not, ◌&&◌, ◌||◌, if◌then◌else◌, List, [], ◌∷◌, ◌++◌, length, drop, Option, Some, None, ap, ap₂, sym, refl, subst, inl, inr, arith, unwrap_or, position, find}
+use Rattle.std.proofs.Common.{◌≡◌, ◌∙◌, ◌+◌, ℕ, zero, suc, Bool, true, false, not, ◌&&◌, ◌||◌, if◌then◌else◌, List, [], ◌∷◌, ◌++◌, length, drop, Option, Some, None, ap, ap₂, sym, refl, subst, inl, inr, arith, unwrap_or, position, find, option_map}
 use Rattle.std.specs.List.{AllByRecursion, after_first, before_first, list_all}
 use Rattle.std.specs.Prelude.{option_and_then, ◌==◌, ⊤}
 use Rattle.std.specs.Str.{bytes_eq}
@@ -15,8 +15,8 @@ use Rattle.clap.proofs.CutLemmas.{Lacks, after_first-at, before_first-Lacks, bef
 use Rattle.clap.specs.Lexer.{has_byte, long_of, long_of_rest, strip_byte}
 use Rattle.command_words.specs.Options.{Bytes}
 use Rattle.command_words.proofs.ClapWalk.{value_long}
-use Rattle.command_words.specs.Uses.{AreUses, BeginsWith, Says, Use, has_name, has_use, is_value}
-use Rattle.command_words.specs.WordReading.{is_readable, is_readable_as, is_readable_option, uses_from, uses_of, with_option, with_use}
+use Rattle.command_words.specs.Uses.{AreOnce, Argument, BeginsWith, Says, Use, flag_value, has_use, is_flag_of, is_value}
+use Rattle.command_words.specs.WordReading.{is_readable, is_readable_as, is_readable_option, uses_from, uses_of, with_form, with_option, with_use}
 
 -- ---- `--name` and `--name=value`
 
@@ -164,7 +164,7 @@ abbrev written : Bytes × Option Bytes → Bytes
 written (name, None) = 45 ∷ 45 ∷ name
 written (name, Some value) = 45 ∷ 45 ∷ name ++ 61 ∷ value
 
-some-same : {A : Type 0} (x y : A) → Some x ≡ Some y → x ≡ y
+pub some-same : {A : Type 0} (x y : A) → Some x ≡ Some y → x ≡ y
 some-same x y e = ap (λ o. unwrap_or o x) e
 
 rest_written : (rest : Bytes) (p : Bytes × Option Bytes) → long_of_rest rest ≡ Some p → 45 ∷ 45 ∷ rest ≡ written p
@@ -238,21 +238,24 @@ apart-split seen more (given ∷ uses) apart =
 
 -- ---- reading is the relation
 
-module _ (names : List Bytes) (plain : AllByRecursion (λ name. is_plain name ≡ true) names) where
-  plain_name : (name : Bytes) (others : List Bytes) → AllByRecursion (λ other. is_plain other ≡ true) others
-      → has_name others name ≡ true → is_plain name ≡ true
-  plain_name name [] each e = absurd (true≢false (sym e))
-  plain_name name (other ∷ others) each e = go (bytes_eq other name) refl e (plain_name name others each.1)
+module _ (arguments : List Argument) (plain : AllByRecursion (λ argument. is_plain argument.0 ≡ true) arguments) where
+  plain_name : (name : Bytes) (flag : Bool) (others : List Argument)
+      → AllByRecursion (λ other. is_plain other.0 ≡ true) others
+      → is_flag_of others name ≡ Some flag → is_plain name ≡ true
+  plain_name name flag [] each e = absurd (none-some flag e)
+  plain_name name flag (other ∷ others) each e =
+      go (bytes_eq other.0 name) refl e (plain_name name flag others each.1)
     where
-      go : (b : Bool) → bytes_eq other name ≡ b → (b || has_name others name) ≡ true → (has_name others name ≡ true
-          → is_plain name ≡ true) → is_plain name ≡ true
-      go true is e rec = ap is_plain (sym ((bytes_eq-Decides other name).0 is)) ∙ each.0
+      go : (b : Bool) → bytes_eq other.0 name ≡ b
+          → option_map (λ o. o.1) (if b then Some other else find (λ o. bytes_eq o.0 name) others) ≡ Some flag
+          → (is_flag_of others name ≡ Some flag → is_plain name ≡ true) → is_plain name ≡ true
+      go true is e rec = ap is_plain (sym ((bytes_eq-Decides other.0 name).0 is)) ∙ each.0
       go false is e rec = rec e
 
   -- the words make these uses, none of which is of a name that was seen
   record Reads (seen uses : List Use) (words : List Bytes) : Type 0 where
-    pub says : Says uses words
-    pub are : AreUses names uses
+    pub says : Says arguments uses words
+    pub once : AreOnce uses
     pub apart : Apart seen uses
 
   given_read : (seen : List Use) (name value : Bytes) (next : List Use → Option Bytes → Option (List Use))
@@ -261,27 +264,44 @@ module _ (names : List Bytes) (plain : AllByRecursion (λ name. is_plain name �
   given_read seen name value next e f =
       ap₂ (λ a b. if a && not b then next (seen ++ (name, value) ∷ []) None else None) e f
 
-  read_from : (uses : List Use) (seen : List Use) (words : List Bytes) → Says uses words → AreUses names uses
-      → Apart seen uses
-      → uses_from names words seen None ≡ Some (seen ++ uses)
+  -- what is read of words that begin with a use
+  read_use : (given : Use) (seen : List Use) (rest words : List Bytes) (f : Option Bool)
+      → is_flag_of arguments given.0 ≡ f → BeginsWith f given rest words → has_use seen given.0 ≡ false
+      → uses_from arguments words seen None ≡ uses_from arguments rest (seen ++ given ∷ []) None
   unfolding uses_from
-  read_from [] seen words says are apart = ap (λ ws. uses_from names ws seen None) says
+  read_use given seen rest words None is begins new = absurd begins
+  read_use given seen rest words (Some true) is (value, words_are) new =
+      let known = plain_name given.0 true arguments plain is in
+      let next = uses_from arguments rest in
+      ap (λ ws. uses_from arguments ws seen None) words_are
+      ∙ ap (λ p. with_option arguments p seen next) (long_of-option given.0 known)
+      ∙ ap (λ f. with_form f given.0 None seen next) is
+      ∙ given_read seen given.0 flag_value next refl new
+      ∙ ap (λ v. next (seen ++ (given.0, v) ∷ []) None) (sym value)
+  read_use given seen rest words (Some false) is (fine, inl apart_words) new =
+      let known = plain_name given.0 false arguments plain is in
+      let next = uses_from arguments (given.1 ∷ rest) in
+      ap (λ ws. uses_from arguments ws seen None) apart_words
+      ∙ ap (λ p. with_option arguments p seen next) (long_of-option given.0 known)
+      ∙ ap (λ f. with_form f given.0 None seen next) is
+      ∙ given_read seen given.0 given.1 (uses_from arguments rest) fine new
+  read_use given seen rest words (Some false) is (fine, inr joined_word) new =
+      let known = plain_name given.0 false arguments plain is in
+      let next = uses_from arguments rest in
+      ap (λ ws. uses_from arguments ws seen None) joined_word
+      ∙ ap (λ p. with_option arguments p seen next) (long_of-joined given.0 given.1 known)
+      ∙ ap (λ f. with_form f given.0 (Some given.1) seen next) is
+      ∙ given_read seen given.0 given.1 next fine new
+
+  read_from : (uses : List Use) (seen : List Use) (words : List Bytes) → Says arguments uses words → AreOnce uses
+      → Apart seen uses
+      → uses_from arguments words seen None ≡ Some (seen ++ uses)
+  unfolding uses_from
+  read_from [] seen words says once apart = ap (λ ws. uses_from arguments ws seen None) says
       ∙ ap Some (sym (append-nil seen))
-  read_from (given ∷ uses) seen words (rest, inl apart_words, says) are apart =
-      let known = plain_name given.0 names plain are.0 in
-      ap (λ ws. uses_from names ws seen None) apart_words
-      ∙ ap (λ p. with_option names p seen (uses_from names (given.1 ∷ rest))) (long_of-option given.0 known)
-      ∙ ap (λ b. if b then uses_from names (given.1 ∷ rest) seen (Some given.0) else None) are.0
-      ∙ given_read seen given.0 given.1 (uses_from names rest) are.1 apart.0
-      ∙ read_from uses (seen ++ given ∷ []) rest says are.3 (apart-push seen given uses apart.1 are.2)
-      ∙ ap Some (append_assoc seen (given ∷ []) uses)
-  read_from (given ∷ uses) seen words (rest, inr joined_word, says) are apart =
-      let known = plain_name given.0 names plain are.0 in
-      ap (λ ws. uses_from names ws seen None) joined_word
-      ∙ ap (λ p. with_option names p seen (uses_from names rest)) (long_of-joined given.0 given.1 known)
-      ∙ ap (λ b. if b then with_use seen given.0 given.1 (uses_from names rest) else None) are.0
-      ∙ given_read seen given.0 given.1 (uses_from names rest) are.1 apart.0
-      ∙ read_from uses (seen ++ given ∷ []) rest says are.3 (apart-push seen given uses apart.1 are.2)
+  read_from (given ∷ uses) seen words (rest, begins, says) once apart =
+      read_use given seen rest words (is_flag_of arguments given.0) refl begins apart.0
+      ∙ read_from uses (seen ++ given ∷ []) rest says once.1 (apart-push seen given uses apart.1 once.0)
       ∙ ap Some (append_assoc seen (given ∷ []) uses)
 
   -- what is read in words where this option waits, in front of them
@@ -291,7 +311,7 @@ module _ (names : List Bytes) (plain : AllByRecursion (λ name. is_plain name �
 
   abbrev IsKnown : Option Bytes → Type 0
   IsKnown None = ⊤
-  IsKnown (Some name) = has_name names name ≡ true
+  IsKnown (Some name) = is_flag_of arguments name ≡ Some false
 
   abbrev Found : List Use → List Use → List Bytes → Type 0
   Found seen every words = (uses : List Use) × (every ≡ seen ++ uses) × Reads seen uses words
@@ -301,85 +321,99 @@ module _ (names : List Bytes) (plain : AllByRecursion (λ name. is_plain name �
   not_true false e = refl
 
   -- one more use before those that are found behind it
-  found_before : (seen every : List Use) (name value : Bytes) (rest words : List Bytes) → has_name names name ≡ true
-      → BeginsWith (name, value) rest words
-      → is_value value ≡ true → has_use seen name ≡ false → Found (seen ++ (name, value) ∷ []) every rest
+  found_before : (seen every : List Use) (given : Use) (rest words : List Bytes)
+      → BeginsWith (is_flag_of arguments given.0) given rest words
+      → has_use seen given.0 ≡ false → Found (seen ++ given ∷ []) every rest
       → Found seen every words
-  found_before seen every name value rest words known begins fine new found =
-      let split = apart-split seen (name, value) found.0 found.2.apart in (
-        (name, value) ∷ found.0,
-        found.1 ∙ append_assoc seen ((name, value) ∷ []) found.0,
+  found_before seen every given rest words begins new found =
+      let split = apart-split seen given found.0 found.2.apart in (
+        given ∷ found.0,
+        found.1 ∙ append_assoc seen (given ∷ []) found.0,
         record {
           says = (rest, begins, found.2.says);
-          are = (known, fine, split.0, found.2.are);
+          once = (split.0, found.2.once);
           apart = (new, split.1);
         },
       )
 
-  found_use : (seen every : List Use) (name value : Bytes) (rest words : List Bytes) → has_name names name ≡ true
-      → BeginsWith (name, value) rest words
-      → ((later : List Use) → uses_from names rest later None ≡ Some every → Found later every rest)
-      → with_use seen name value (uses_from names rest) ≡ Some every → Found seen every words
-  found_use seen every name value rest words known begins rec e = go (is_value value && not (has_use seen name)) refl e
+  found_use : (seen every : List Use) (name value : Bytes) (rest words : List Bytes)
+      → (is_value value ≡ true → BeginsWith (is_flag_of arguments name) (name, value) rest words)
+      → ((later : List Use) → uses_from arguments rest later None ≡ Some every → Found later every rest)
+      → with_use seen name value (uses_from arguments rest) ≡ Some every → Found seen every words
+  found_use seen every name value rest words begins rec e = go (is_value value && not (has_use seen name)) refl e
     where
       go : (b : Bool) → (is_value value && not (has_use seen name)) ≡ b
-          → (if b then uses_from names rest (seen ++ (name, value) ∷ []) None else None) ≡ Some every
+          → (if b then uses_from arguments rest (seen ++ (name, value) ∷ []) None else None) ≡ Some every
           → Found seen every words
       go true is e =
           let parts = and_parts _ _ is in
-          found_before seen every name value rest words known begins parts.0 (not_true _ parts.1) (rec _ e)
+          found_before seen every (name, value) rest words (begins parts.0) (not_true _ parts.1) (rec _ e)
       go false is e = absurd (none-some every e)
+
+  -- a use of an option with a value is known by its form
+  begins_by : (f : Option Bool) (given : Use) (rest words : List Bytes) → is_flag_of arguments given.0 ≡ f
+      → BeginsWith f given rest words → BeginsWith (is_flag_of arguments given.0) given rest words
+  begins_by f given rest words is begins = subst (λ g. BeginsWith g given rest words) (sym is) begins
+
+  found_form : (seen every : List Use) (word : Bytes) (rest : List Bytes) (name : Bytes) (value : Option Bytes)
+      → long_of word ≡ Some (name, value)
+      → ((waiting : Option Bytes) (later : List Use) → IsKnown waiting → uses_from arguments rest later waiting
+      ≡ Some every → Found later every (from_waiting waiting rest))
+      → (f : Option Bool) → is_flag_of arguments name ≡ f
+      → with_form f name value seen (uses_from arguments rest) ≡ Some every → Found seen every (word ∷ rest)
+  found_form seen every word rest name value is rec None known e = absurd (none-some every e)
+  found_form seen every word rest name None is rec (Some true) known e =
+      found_use seen every name flag_value rest (word ∷ rest)
+      (λ fine. begins_by (Some true) (name, flag_value) rest (word ∷ rest) known
+      (refl, ap (λ w. w ∷ rest) (word_written word (name, None) is)))
+      (λ later. rec None later tt) e
+  found_form seen every word rest name (Some value) is rec (Some true) known e = absurd (none-some every e)
+  found_form seen every word rest name None is rec (Some false) known e =
+      subst (λ w. Found seen every (w ∷ rest)) (sym (word_written word (name, None) is)) (rec (Some name) seen known e)
+  found_form seen every word rest name (Some value) is rec (Some false) known e =
+      found_use seen every name value rest (word ∷ rest)
+      (λ fine. begins_by (Some false) (name, value) rest (word ∷ rest) known
+      (fine, inr (ap (λ w. w ∷ rest) (word_written word (name, Some value) is))))
+      (λ later. rec None later tt) e
 
   found_option : (seen every : List Use) (word : Bytes) (rest : List Bytes) (parts : Option (Bytes × Option Bytes))
       → long_of word ≡ parts
-      → ((waiting : Option Bytes) (later : List Use) → IsKnown waiting → uses_from names rest later waiting ≡ Some every
-      → Found later every (from_waiting waiting rest))
-      → with_option names parts seen (uses_from names rest) ≡ Some every → Found seen every (word ∷ rest)
+      → ((waiting : Option Bytes) (later : List Use) → IsKnown waiting → uses_from arguments rest later waiting
+      ≡ Some every → Found later every (from_waiting waiting rest))
+      → with_option arguments parts seen (uses_from arguments rest) ≡ Some every → Found seen every (word ∷ rest)
   found_option seen every word rest None is rec e = absurd (none-some every e)
-  found_option seen every word rest (Some (name, None)) is rec e = go (has_name names name) refl e
-    where
-      go : (b : Bool) → has_name names name ≡ b → (if b then uses_from names rest seen (Some name) else None)
-          ≡ Some every → Found seen every (word ∷ rest)
-      go true known e = subst (λ w. Found seen every (w ∷ rest)) (sym (word_written word (name, None) is))
-          (rec (Some name) seen known e)
-      go false known e = absurd (none-some every e)
-  found_option seen every word rest (Some (name, Some value)) is rec e = go (has_name names name) refl e
-    where
-      go : (b : Bool) → has_name names name ≡ b → (if b then with_use seen name value (uses_from names rest) else None)
-          ≡ Some every → Found seen every (word ∷ rest)
-      go true known e = found_use seen every name value rest (word ∷ rest) known
-          (inr (ap (λ w. w ∷ rest) (word_written word (name, Some value) is)))
-          (λ later. rec None later tt) e
-      go false known e = absurd (none-some every e)
+  found_option seen every word rest (Some (name, value)) is rec e =
+      found_form seen every word rest name value is rec (is_flag_of arguments name) refl e
 
   found_from : (words : List Bytes) (every : List Use) (waiting : Option Bytes) (seen : List Use) → IsKnown waiting
-      → uses_from names words seen waiting ≡ Some every
+      → uses_from arguments words seen waiting ≡ Some every
       → Found seen every (from_waiting waiting words)
   unfolding uses_from
   found_from [] every None seen known e =
-      ([], some-same _ _ (sym e) ∙ sym (append-nil seen), record { says = refl; are = tt; apart = tt })
+      ([], some-same _ _ (sym e) ∙ sym (append-nil seen), record { says = refl; once = tt; apart = tt })
   found_from [] every (Some name) seen known e = absurd (none-some every e)
   found_from (word ∷ rest) every None seen known e = found_option seen every word rest (long_of word) refl
       (found_from rest every) e
   found_from (word ∷ rest) every (Some name) seen known e =
-      found_use seen every name word rest ((45 ∷ 45 ∷ name) ∷ word ∷ rest) known (inl refl)
+      found_use seen every name word rest ((45 ∷ 45 ∷ name) ∷ word ∷ rest)
+      (λ fine. begins_by (Some false) (name, word) rest ((45 ∷ 45 ∷ name) ∷ word ∷ rest) known (fine, inl refl))
       (λ later. found_from rest every None later tt) e
 
   -- the uses that words make are read
-  pub uses_of-complete : (uses : List Use) (words : List Bytes) → Says uses words → AreUses names uses
-      → uses_of names words ≡ Some uses
-  uses_of-complete uses words says are = read_from uses [] words says are (none_seen uses)
+  pub uses_of-complete : (uses : List Use) (words : List Bytes) → Says arguments uses words → AreOnce uses
+      → uses_of arguments words ≡ Some uses
+  uses_of-complete uses words says once = read_from uses [] words says once (none_seen uses)
     where
       none_seen : (uses : List Use) → Apart [] uses
       none_seen [] = tt
       none_seen (given ∷ uses) = (refl, none_seen uses)
 
   -- those that are read are what the words make
-  pub uses_of-sound : (uses : List Use) (words : List Bytes) → uses_of names words ≡ Some uses → Says uses words
-      × AreUses names uses
+  pub uses_of-sound : (uses : List Use) (words : List Bytes) → uses_of arguments words ≡ Some uses
+      → Says arguments uses words × AreOnce uses
   uses_of-sound uses words e =
       let found = found_from words uses None [] tt e in
-      subst (λ all. Says all words × AreUses names all) (sym found.1) (found.2.says, found.2.are)
+      subst (λ all. Says arguments all words × AreOnce all) (sym found.1) (found.2.says, found.2.once)
 
   -- ---- words that are read are readable
 
@@ -387,40 +421,45 @@ module _ (names : List Bytes) (plain : AllByRecursion (λ name. is_plain name �
   value_readable word e = ap (λ parts. is_readable_as parts word) (value_long word e) ∙ e
 
   with_use-value : (seen every : List Use) (name value : Bytes) (rest : List Bytes)
-      → with_use seen name value (uses_from names rest) ≡ Some every
-      → (is_value value ≡ true) × (uses_from names rest (seen ++ (name, value) ∷ []) None ≡ Some every)
+      → with_use seen name value (uses_from arguments rest) ≡ Some every
+      → (is_value value ≡ true) × (uses_from arguments rest (seen ++ (name, value) ∷ []) None ≡ Some every)
   with_use-value seen every name value rest e = go (is_value value && not (has_use seen name)) refl e
     where
       go : (b : Bool) → (is_value value && not (has_use seen name)) ≡ b
-          → (if b then uses_from names rest (seen ++ (name, value) ∷ []) None else None) ≡ Some every
-          → (is_value value ≡ true) × (uses_from names rest (seen ++ (name, value) ∷ []) None ≡ Some every)
+          → (if b then uses_from arguments rest (seen ++ (name, value) ∷ []) None else None) ≡ Some every
+          → (is_value value ≡ true) × (uses_from arguments rest (seen ++ (name, value) ∷ []) None ≡ Some every)
       go true is e = ((and_parts _ _ is).0, e)
       go false is e = absurd (none-some every e)
 
+  readable_form : (seen every : List Use) (word : Bytes) (rest : List Bytes) (name : Bytes) (value : Option Bytes)
+      → long_of word ≡ Some (name, value)
+      → ((waiting : Option Bytes) (later : List Use) → uses_from arguments rest later waiting ≡ Some every
+      → list_all is_readable rest ≡ true)
+      → (f : Option Bool) → with_form f name value seen (uses_from arguments rest) ≡ Some every
+      → (is_readable word && list_all is_readable rest) ≡ true
+  readable_form seen every word rest name value is rec None e = absurd (none-some every e)
+  readable_form seen every word rest name (Some value) is rec (Some true) e = absurd (none-some every e)
+  readable_form seen every word rest name None is rec (Some true) e =
+      ap₂ (λ a b. a && b) (ap (λ p. is_readable_as p word) is)
+      (rec None _ (with_use-value seen every name flag_value rest e).1)
+  readable_form seen every word rest name None is rec (Some false) e =
+      ap₂ (λ a b. a && b) (ap (λ p. is_readable_as p word) is) (rec (Some name) seen e)
+  readable_form seen every word rest name (Some value) is rec (Some false) e =
+      let parts = with_use-value seen every name value rest e in
+      ap₂ (λ a b. a && b) (ap (λ p. is_readable_as p word) is ∙ parts.0) (rec None _ parts.1)
+
   readable_option : (seen every : List Use) (word : Bytes) (rest : List Bytes) (parts : Option (Bytes × Option Bytes))
       → long_of word ≡ parts
-      → ((waiting : Option Bytes) (later : List Use) → uses_from names rest later waiting ≡ Some every
+      → ((waiting : Option Bytes) (later : List Use) → uses_from arguments rest later waiting ≡ Some every
       → list_all is_readable rest ≡ true)
-      → with_option names parts seen (uses_from names rest) ≡ Some every
+      → with_option arguments parts seen (uses_from arguments rest) ≡ Some every
       → (is_readable word && list_all is_readable rest) ≡ true
   readable_option seen every word rest None is rec e = absurd (none-some every e)
-  readable_option seen every word rest (Some (name, None)) is rec e = go (has_name names name) e
-    where
-      go : (b : Bool) → (if b then uses_from names rest seen (Some name) else None) ≡ Some every
-          → (is_readable word && list_all is_readable rest) ≡ true
-      go true e = ap₂ (λ a b. a && b) (ap (λ parts. is_readable_as parts word) is) (rec (Some name) seen e)
-      go false e = absurd (none-some every e)
-  readable_option seen every word rest (Some (name, Some value)) is rec e = go (has_name names name) e
-    where
-      go : (b : Bool) → (if b then with_use seen name value (uses_from names rest) else None) ≡ Some every
-          → (is_readable word && list_all is_readable rest) ≡ true
-      go true e =
-          let parts = with_use-value seen every name value rest e in
-          ap₂ (λ a b. a && b) (ap (λ p. is_readable_as p word) is ∙ parts.0) (rec None _ parts.1)
-      go false e = absurd (none-some every e)
+  readable_option seen every word rest (Some (name, value)) is rec e =
+      readable_form seen every word rest name value is rec (is_flag_of arguments name) e
 
   pub readable_from : (words : List Bytes) (every : List Use) (waiting : Option Bytes) (seen : List Use)
-      → uses_from names words seen waiting ≡ Some every
+      → uses_from arguments words seen waiting ≡ Some every
       → list_all is_readable words ≡ true
   unfolding uses_from
   readable_from [] every waiting seen e = refl

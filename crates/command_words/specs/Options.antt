@@ -1,15 +1,15 @@
 -- The table of options, and the commands with the options that each has. A word is the list of its bytes.
-use Rattle.std.specs.Prelude.{ℕ, ◌==◌, List, [], ◌∷◌, codes, find, Option, Some, None}
+use Rattle.std.specs.Prelude.{ℕ, Bool, true, false, ◌==◌, List, [], ◌∷◌, codes, find, Option, Some, None}
 use Rattle.std.specs.Option.{option_map_or}
 use Rattle.std.specs.Str.{bytes_eq}
 use Rattle.fixed_decimal.specs.Decimal.{decimal_within, whole_within}
 use Rattle.mass_scaling.specs.declared.limits.TheConstants.{MAX_MZ, MAX_DA, MAX_PPM}
 use Rattle.command_words.specs.declared.commands.CommandName.{CommandName}
-use Rattle.command_words.specs.declared.commands.CommandName.TheVariants.{Decompose, Envelope}
+use Rattle.command_words.specs.declared.commands.CommandName.TheVariants.{Decompose, Envelope, Check}
 use Rattle.command_words.specs.declared.commands.OptionGroup.{OptionGroup}
 use Rattle.command_words.specs.declared.commands.OptionGroup.TheVariants.{Sought, Tolerance}
 use Rattle.command_words.specs.declared.options.OptionName.{OptionName}
-use Rattle.command_words.specs.declared.options.OptionName.TheVariants.{Table, Tracer, Mass, Peaks, Ppm, Da, PpmCalc, Alphabet, Adduct, Rules, Formula, Coverage, Limit, After}
+use Rattle.command_words.specs.declared.options.OptionName.TheVariants.{Table, Tracer, Mass, Peaks, Ppm, Da, PpmCalc, Alphabet, Adduct, Rules, Formula, Coverage, Limit, After, Certificate}
 use Rattle.command_words.specs.declared.options.ValueKind.{ValueKind}
 use Rattle.command_words.specs.declared.options.ValueKind.TheVariants as value
 use Rattle.command_words.specs.declared.options.TheConstants.{MIN_MZ, MIN_COVERAGE, MAX_COVERAGE, MIN_LIMIT, MAX_LIMIT}
@@ -21,7 +21,7 @@ Bytes = List ℕ
 -- the options in the order of their table
 abbrev pub option_table : List OptionName
 option_table = Table ∷ Tracer ∷ Mass ∷ Peaks ∷ Ppm ∷ Da ∷ PpmCalc ∷ Alphabet ∷ Adduct
-    ∷ Rules ∷ Formula ∷ Coverage ∷ Limit ∷ After ∷ []
+    ∷ Rules ∷ Formula ∷ Coverage ∷ Limit ∷ After ∷ Certificate ∷ []
 
 -- the name of an option, without its hyphens
 abbrev pub name : OptionName → Bytes
@@ -39,6 +39,7 @@ name Formula = codes "formula"
 name Coverage = codes "coverage"
 name Limit = codes "limit"
 name After = codes "after"
+name Certificate = codes "certificate"
 
 -- what the value of an option is: a text, or a number in its range, in units of 10^-12 (Da), 10^-3 (ppm), 10^-18 (a
 -- coverage) or 1
@@ -57,6 +58,7 @@ kind Formula = value.Text
 kind Coverage = value.Fraction MIN_COVERAGE MAX_COVERAGE
 kind Limit = value.Whole MIN_LIMIT MAX_LIMIT
 kind After = value.Text
+kind Certificate = value.Text
 
 -- the place of an option in the table, from 1
 abbrev pub number : OptionName → ℕ
@@ -74,6 +76,7 @@ number Formula = 11
 number Coverage = 12
 number Limit = 13
 number After = 14
+number Certificate = 15
 
 -- the text that stands for an option which isn't given, if the option has one
 abbrev pub default_text : OptionName → Option Bytes
@@ -108,10 +111,11 @@ number_within (value.Whole low high) text = whole_within low high text
 abbrev pub command_word : CommandName → Bytes
 command_word Decompose = codes "decompose"
 command_word Envelope = codes "envelope"
+command_word Check = codes "check"
 
 -- the commands
 abbrev pub commands : List CommandName
-commands = Decompose ∷ Envelope ∷ []
+commands = Decompose ∷ Envelope ∷ Check ∷ []
 
 -- the command that a first word names
 abbrev pub command_of : Bytes → Option CommandName
@@ -120,17 +124,24 @@ command_of first = find (λ command. bytes_eq first (command_word command)) comm
 -- the options that a command has, in the order of the table
 abbrev pub options : CommandName → List OptionName
 options Decompose = Table ∷ Mass ∷ Peaks ∷ Ppm ∷ Da ∷ PpmCalc ∷ Alphabet ∷ Adduct ∷ Rules ∷ Limit ∷ After ∷ []
-options Envelope = Table ∷ Tracer ∷ Adduct ∷ Formula ∷ Coverage ∷ []
+options Envelope = Table ∷ Tracer ∷ Adduct ∷ Formula ∷ Coverage ∷ Certificate ∷ []
+options Check = Table ∷ Tracer ∷ Certificate ∷ []
+
+-- an option is a flag of a command, and has no value there
+abbrev pub is_flag : CommandName → OptionName → Bool
+is_flag Envelope Certificate = true
+is_flag _ _ = false
 
 -- those of them that it requires
 abbrev pub required_options : CommandName → List OptionName
 required_options Decompose = Table ∷ Alphabet ∷ []
 required_options Envelope = Table ∷ Formula ∷ Coverage ∷ []
+required_options Check = Table ∷ Certificate ∷ []
 
 -- the groups of them of which it asks exactly one
 abbrev pub groups : CommandName → List OptionGroup
 groups Decompose = Sought ∷ Tolerance ∷ []
-groups Envelope = []
+groups _ = []
 
 -- the options of a group: what is looked for, and how far from it
 abbrev pub group_options : OptionGroup → List OptionName

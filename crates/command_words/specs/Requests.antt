@@ -20,7 +20,7 @@ use Rattle.command_words.specs.declared.options.ValueKind.{ValueKind}
 use Rattle.command_words.specs.declared.options.ValueKind.TheVariants.{Text}
 use Rattle.command_words.specs.declared.options.TheConstants.{MIN_MZ, MIN_COVERAGE, MAX_COVERAGE, MIN_LIMIT, MAX_LIMIT, OPTION_COUNT}
 use Rattle.command_words.specs.declared.request.Request.{Request}
-use Rattle.command_words.specs.declared.request.Request.TheVariants.{Decompose, Envelope}
+use Rattle.command_words.specs.declared.request.Request.TheVariants.{Decompose, Envelope, Check}
 
 -- the value that each option is given, if it is
 abbrev pub Values : Type 0
@@ -74,7 +74,8 @@ first_outside command values = find (has_value_outside values) (options command)
 
 -- ---- what is asked for
 
--- each field of the request is what its option is given, in its unit, or the option's default
+-- each field of the request is what its option is given, in its unit, or the option's default; that of a flag says
+-- whether the flag is given
 abbrev pub IsRequestOf : CommandName → Values → Request → Type 0
 IsRequestOf command.Decompose values (Decompose table mass peaks allowed alphabet adduct rules limit after) =
     (text_of values option.Table ≡ Some table) × (mass ≡ number_of values option.Mass)
@@ -82,10 +83,12 @@ IsRequestOf command.Decompose values (Decompose table mass peaks allowed alphabe
     × (text_of values option.Alphabet ≡ Some alphabet) × (text_of values option.Adduct ≡ Some adduct)
     × (text_of values option.Rules ≡ Some rules) × (limit ≡ number_of values option.Limit)
     × (after ≡ values option.After)
-IsRequestOf command.Envelope values (Envelope table tracer adduct formula coverage) =
+IsRequestOf command.Envelope values (Envelope table tracer adduct formula coverage certificate) =
     (text_of values option.Table ≡ Some table) × (tracer ≡ values option.Tracer)
     × (text_of values option.Adduct ≡ Some adduct) × (text_of values option.Formula ≡ Some formula)
-    × (number_of values option.Coverage ≡ Some coverage)
+    × (number_of values option.Coverage ≡ Some coverage) × (certificate ≡ is_some (values option.Certificate))
+IsRequestOf command.Check values (Check table tracer certificate) = (text_of values option.Table ≡ Some table)
+    × (tracer ≡ values option.Tracer) × (text_of values option.Certificate ≡ Some certificate)
 IsRequestOf _ values _ = ⊥
 
 -- What the values of a command's options ask for: Words where the options that are given don't go together; or, where
@@ -133,7 +136,9 @@ abbrev pub HasRanges : Request → Type 0
 HasRanges (Decompose table mass peaks allowed alphabet adduct rules limit after) = HasMassOrPeaks mass peaks
     × IsWithin MIN_MZ MAX_MZ mass × IsTolerance allowed × IsWithin MIN_LIMIT MAX_LIMIT limit
     × GoWithMass mass limit after
-HasRanges (Envelope table tracer adduct formula coverage) = (MIN_COVERAGE ≤ coverage) × (coverage ≤ MAX_COVERAGE)
+HasRanges (Envelope table tracer adduct formula coverage certificate) = (MIN_COVERAGE ≤ coverage)
+    × (coverage ≤ MAX_COVERAGE)
+HasRanges (Check table tracer certificate) = ⊤
 
 -- the option that a fault numbers is one of the table
 abbrev pub IsOfTable : WordsFault → Type 0

@@ -1,13 +1,14 @@
 -- Definitions that proofs use: the one answer that `Asks` allows, computed from the words. The layers above compute
 -- with `request_of`.
-use Rattle.std.specs.Prelude.{ℕ, Bool, true, false, not, ◌&&◌, List, [], ◌∷◌, ◌++◌, Option, Some, None, Result, Ok, Err, if◌then◌else◌}
+use Rattle.std.specs.Prelude.{ℕ, Bool, true, false, not, ◌&&◌, List, [], ◌∷◌, ◌++◌, Option, Some, None, is_some, Result, Ok, Err, if◌then◌else◌}
 use Rattle.clap.specs.Lexer.{long_of, long_of_rest}
-use Rattle.clap.specs.Walk.{first_of, rows_of}
+use Rattle.clap.specs.Walk.{rows_of}
 use Rattle.clap.specs.declared.parser.matches.Found.{Found}
 use Rattle.reader_answers.specs.Answers.{or_fault, ◌>>=◌}
+use Rattle.command_words.specs.ClapCommands.{given_in}
 use Rattle.command_words.specs.Options.{Bytes, command_of, name, number}
 use Rattle.command_words.specs.Requests.{Values, first_outside, go_together, number_of, text_of, tolerance_of}
-use Rattle.command_words.specs.Uses.{Use, has_name, has_use, is_value, names, value_of}
+use Rattle.command_words.specs.Uses.{Argument, Use, arguments, flag_value, has_use, is_flag_of, is_value, value_of}
 use Rattle.command_words.specs.declared.commands.CommandName.{CommandName}
 use Rattle.command_words.specs.declared.commands.CommandName.TheVariants as command
 use Rattle.command_words.specs.declared.fault.WordsFault.{WordsFault}
@@ -15,7 +16,7 @@ use Rattle.command_words.specs.declared.fault.WordsFault.TheVariants.{Words, Val
 use Rattle.command_words.specs.declared.options.OptionName.{OptionName}
 use Rattle.command_words.specs.declared.options.OptionName.TheVariants as option
 use Rattle.command_words.specs.declared.request.Request.{Request}
-use Rattle.command_words.specs.declared.request.Request.TheVariants.{Decompose, Envelope}
+use Rattle.command_words.specs.declared.request.Request.TheVariants.{Decompose, Envelope, Check}
 
 abbrev pub is_memory : WordsFault → Bool
 is_memory Memory = true
@@ -43,28 +44,34 @@ abbrev pub with_use : List Use → Bytes → Bytes → Reader → Option (List U
 with_use seen name value next =
     if is_value value && not (has_use seen name) then next (seen ++ (name, value) ∷ []) None else None
 
-abbrev pub with_option : List Bytes → Option (Bytes × Option Bytes) → List Use → Reader → Option (List Use)
-with_option names None seen next = None
-with_option names (Some (name, None)) seen next = if has_name names name then next seen (Some name) else None
-with_option names (Some (name, Some value)) seen next =
-    if has_name names name then with_use seen name value next else None
+-- `--name`, with or without something behind `=`, by whether its option is a flag
+abbrev pub with_form : Option Bool → Bytes → Option Bytes → List Use → Reader → Option (List Use)
+with_form None name value seen next = None
+with_form (Some true) name None seen next = with_use seen name flag_value next
+with_form (Some true) name (Some value) seen next = None
+with_form (Some false) name None seen next = next seen (Some name)
+with_form (Some false) name (Some value) seen next = with_use seen name value next
 
-abbrev pub with_word : List Bytes → Bytes → List Use → Option Bytes → Reader → Option (List Use)
-with_word names word seen (Some name) next = with_use seen name word next
-with_word names word seen None next = with_option names (long_of word) seen next
+abbrev pub with_option : List Argument → Option (Bytes × Option Bytes) → List Use → Reader → Option (List Use)
+with_option arguments None seen next = None
+with_option arguments (Some (name, value)) seen next = with_form (is_flag_of arguments name) name value seen next
 
--- the uses that words make of options of these names, after those seen
-unfoldable pub uses_from : List Bytes → List Bytes → List Use → Option Bytes → Option (List Use)
-uses_from names [] seen None = Some seen
-uses_from names [] seen (Some name) = None
-uses_from names (word ∷ rest) seen waiting = with_word names word seen waiting (uses_from names rest)
+abbrev pub with_word : List Argument → Bytes → List Use → Option Bytes → Reader → Option (List Use)
+with_word arguments word seen (Some name) next = with_use seen name word next
+with_word arguments word seen None next = with_option arguments (long_of word) seen next
 
-abbrev pub uses_of : List Bytes → List Bytes → Option (List Use)
-uses_of names words = uses_from names words [] None
+-- the uses that words make of these options, after those seen
+unfoldable pub uses_from : List Argument → List Bytes → List Use → Option Bytes → Option (List Use)
+uses_from arguments [] seen None = Some seen
+uses_from arguments [] seen (Some name) = None
+uses_from arguments (word ∷ rest) seen waiting = with_word arguments word seen waiting (uses_from arguments rest)
 
--- what clap finds for each option
+abbrev pub uses_of : List Argument → List Bytes → Option (List Use)
+uses_of arguments words = uses_from arguments words [] None
+
+-- the value that clap finds for each option
 abbrev pub matched : Found → Values
-matched found option = first_of (name option) (rows_of found)
+matched found option = given_in (rows_of found) (name option)
 
 abbrev pub required_text : Values → OptionName → Result Bytes WordsFault
 required_text values option = or_fault Words (text_of values option)
@@ -82,12 +89,17 @@ decompose_request values = required_text values option.Table >>= λ table. or_fa
 unfoldable pub envelope_request : Values → Result Request WordsFault
 envelope_request values = required_text values option.Table >>= λ table. required_text values option.Adduct
     >>= λ adduct. required_text values option.Formula >>= λ formula. required_number values option.Coverage
-    >>= λ coverage. Ok (Envelope table (values option.Tracer) adduct formula coverage)
+    >>= λ coverage. Ok (Envelope table (values option.Tracer) adduct formula coverage (is_some (values option.Certificate)))
+
+unfoldable pub check_request : Values → Result Request WordsFault
+check_request values = required_text values option.Table >>= λ table. required_text values option.Certificate
+    >>= λ certificate. Ok (Check table (values option.Tracer) certificate)
 
 -- the request of values that go together and are in their ranges
 abbrev pub fields_request : CommandName → Values → Result Request WordsFault
 fields_request command.Decompose values = decompose_request values
 fields_request command.Envelope values = envelope_request values
+fields_request command.Check values = check_request values
 
 -- the answer by whether options go together, and by the first whose value is outside its range
 abbrev pub answer_by : Bool → Option OptionName → Result Request WordsFault → Result Request WordsFault
@@ -103,4 +115,4 @@ values_request command values =
 unfoldable pub request_of : List Bytes → Result Request WordsFault
 request_of [] = Err Words
 request_of (first ∷ words) = or_fault Words (command_of first) >>= λ command.
-    or_fault Words (uses_of (names command) words) >>= λ uses. values_request command (value_of uses)
+    or_fault Words (uses_of (arguments command) words) >>= λ uses. values_request command (value_of uses)

@@ -1,6 +1,6 @@
 //! The commands, the options that each has, and which of them are asked together.
 ghost use Rattle.std.specs.Prelude.{◌≡◌, ◌==◌, length, map, option_map, string_bytes};
-ghost use Rattle.command_words.specs.Options.{command_word, command_of, group_options, groups, options, required_options};
+ghost use Rattle.command_words.specs.Options.{command_word, command_of, group_options, groups, is_flag, options, required_options};
 
 use crate::options::OptionName;
 
@@ -9,6 +9,7 @@ use crate::options::OptionName;
 pub(crate) enum CommandName {
     Decompose,
     Envelope,
+    Check,
 }
 
 /// Options of which exactly one is asked.
@@ -34,12 +35,19 @@ static DECOMPOSE_OPTIONS: [OptionName; 11] = [
     OptionName::After,
 ];
 
-static ENVELOPE_OPTIONS: [OptionName; 5] = [
+static ENVELOPE_OPTIONS: [OptionName; 6] = [
     OptionName::Table,
     OptionName::Tracer,
     OptionName::Adduct,
     OptionName::Formula,
     OptionName::Coverage,
+    OptionName::Certificate,
+];
+
+static CHECK_OPTIONS: [OptionName; 3] = [
+    OptionName::Table,
+    OptionName::Tracer,
+    OptionName::Certificate,
 ];
 
 static DECOMPOSE_REQUIRED: [OptionName; 2] = [OptionName::Table, OptionName::Alphabet];
@@ -49,6 +57,8 @@ static ENVELOPE_REQUIRED: [OptionName; 3] = [
     OptionName::Formula,
     OptionName::Coverage,
 ];
+
+static CHECK_REQUIRED: [OptionName; 2] = [OptionName::Table, OptionName::Certificate];
 
 static DECOMPOSE_GROUPS: [OptionGroup; 2] = [OptionGroup::Sought, OptionGroup::Tolerance];
 
@@ -64,6 +74,7 @@ impl CommandName {
         match word.as_str() {
             "decompose" => Some(CommandName::Decompose),
             "envelope" => Some(CommandName::Envelope),
+            "check" => Some(CommandName::Check),
             _ => None,
         }
     }
@@ -75,6 +86,7 @@ impl CommandName {
         match self {
             CommandName::Decompose => "decompose",
             CommandName::Envelope => "envelope",
+            CommandName::Check => "check",
         }
     }
 
@@ -85,7 +97,18 @@ impl CommandName {
         match self {
             CommandName::Decompose => DECOMPOSE_OPTIONS.as_slice(),
             CommandName::Envelope => ENVELOPE_OPTIONS.as_slice(),
+            CommandName::Check => CHECK_OPTIONS.as_slice(),
         }
+    }
+
+    /// Whether an option is a flag of the command, and has no value there.
+    pub(crate) fn has_flag(self, option: OptionName) -> bool
+        ensures { result ≡ is_flag self option }
+    {
+        matches!(
+            (self, option),
+            (CommandName::Envelope, OptionName::Certificate)
+        )
     }
 
     /// Those of them that it requires.
@@ -95,6 +118,7 @@ impl CommandName {
         match self {
             CommandName::Decompose => DECOMPOSE_REQUIRED.as_slice(),
             CommandName::Envelope => ENVELOPE_REQUIRED.as_slice(),
+            CommandName::Check => CHECK_REQUIRED.as_slice(),
         }
     }
 
@@ -104,7 +128,7 @@ impl CommandName {
     {
         match self {
             CommandName::Decompose => DECOMPOSE_GROUPS.as_slice(),
-            CommandName::Envelope => &[],
+            _ => &[],
         }
     }
 }

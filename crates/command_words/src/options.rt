@@ -20,7 +20,7 @@ pub const MIN_LIMIT: u64 = 1;
 pub const MAX_LIMIT: u64 = 1_048_576;
 
 /// How many options there are; they are numbered from 1.
-pub const OPTION_COUNT: u32 = 14;
+pub const OPTION_COUNT: u32 = 15;
 
 /// The options, in the order of their table.
 #[derive(Clone, Copy, Debug, PartialEq, Eq)]
@@ -39,6 +39,7 @@ pub(crate) enum OptionName {
     Coverage,
     Limit,
     After,
+    Certificate,
 }
 
 /// What the value of an option is, with the least and the greatest number.
@@ -114,6 +115,7 @@ const OPTIONS: [OptionName; OPTION_COUNT as usize] = [
     OptionName::Coverage,
     OptionName::Limit,
     OptionName::After,
+    OptionName::Certificate,
 ];
 
 impl OptionName {
@@ -136,6 +138,9 @@ impl OptionName {
             OptionName::Coverage => OptionRow::of("--coverage", "coverage", COVERAGE),
             OptionName::Limit => OptionRow::of("--limit", "limit", LIMIT),
             OptionName::After => OptionRow::of("--after", "after", ValueKind::Text),
+            OptionName::Certificate => {
+                OptionRow::of("--certificate", "certificate", ValueKind::Text)
+            }
         }
     }
 
@@ -146,7 +151,7 @@ impl OptionName {
         self.row().name
     }
 
-    /// What its value is.
+    /// What its value is, where it isn't a flag.
     pub(crate) fn kind(self) -> ValueKind
         ensures { result ≡ kind self }
     {

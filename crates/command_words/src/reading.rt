@@ -4,7 +4,7 @@ ghost use Rattle.std.specs.List.{list_all};
 ghost use Rattle.reader_answers.specs.Answers.{Gives};
 ghost use Rattle.clap.specs.Words.{found_of};
 ghost use Rattle.command_words.specs.Requests.{Asks, HasRanges, IsOfTable};
-ghost use Rattle.command_words.specs.WordReading.{decompose_request, envelope_request, is_memory, is_readable, matched, request_of, values_request};
+ghost use Rattle.command_words.specs.WordReading.{check_request, decompose_request, envelope_request, is_memory, is_readable, matched, request_of, values_request};
 ghost use Rattle.command_words.specs.declared.fault.WordsFault.{WordsFault};
 ghost use Rattle.command_words.specs.declared.request.Request.{Request};
 
@@ -14,12 +14,14 @@ use crate::matches::{is_readable, matches_of};
 use crate::options::OptionName;
 use crate::request::Request;
 use crate::together::{first_outside, go_together};
-use crate::values::{given_text, number_of, required_number, required_text, tolerance_of};
+use crate::values::{
+    given_text, is_given, number_of, required_number, required_text, tolerance_of,
+};
 use clap::ArgMatches;
 use std::alloc::Global;
 
 /// Reads the words behind the program's name as a request. The first names a command; the others give each option
-/// of it that they name its value, as `--name value` or `--name=value`, in any order. The answer is
+/// of it that they name its value, as `--name value` or `--name=value`, and flags as `--name`, in any order. The answer is
 /// [`WordsFault::Words`] where they don't, or where the options that they give don't go together, and else
 /// [`WordsFault::Value`] of the first option in the order of the table whose value is outside its range. Options go
 /// together where each is given that the command requires, exactly one of those of which one is asked, and none
@@ -81,6 +83,7 @@ fn matched_request(
     match command {
         CommandName::Decompose => decompose_request(alloc, matches),
         CommandName::Envelope => envelope_request(alloc, matches),
+        CommandName::Check => check_request(alloc, matches),
     }
 }
 
@@ -113,5 +116,18 @@ fn envelope_request(alloc: Global, matches: &ArgMatches<'_>) -> Result<Request, 
         adduct: required_text(alloc, matches, OptionName::Adduct)?,
         formula: required_text(alloc, matches, OptionName::Formula)?,
         coverage: required_number(matches, OptionName::Coverage)?,
+        certificate: is_given(matches, OptionName::Certificate),
+    })
+}
+
+/// The request that the values of `check` make.
+#[tactic(auto, unfolding(crate::specs::WordReading::check_request))]
+fn check_request(alloc: Global, matches: &ArgMatches<'_>) -> Result<Request, WordsFault>
+    ensures { Gives is_memory result (check_request (matched (found_of matches.now))) }
+{
+    Ok(Request::Check {
+        table: required_text(alloc, matches, OptionName::Table)?,
+        tracer: given_text(alloc, matches, OptionName::Tracer)?,
+        certificate: required_text(alloc, matches, OptionName::Certificate)?,
     })
 }

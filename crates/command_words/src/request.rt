@@ -44,5 +44,16 @@ pub enum Request {
         /// The wanted coverage, in 10^-18, from [`MIN_COVERAGE`](crate::MIN_COVERAGE) to
         /// [`MAX_COVERAGE`](crate::MAX_COVERAGE).
         coverage: u64,
+        /// Whether the certificate is asked for.
+        certificate: bool,
+    },
+    /// Whether a certificate is right.
+    Check {
+        /// The name of the table file.
+        table: Word,
+        /// The name of the tracer file.
+        tracer: Option<Word>,
+        /// The name of the certificate file.
+        certificate: Word,
     },
 }

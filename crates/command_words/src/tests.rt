@@ -51,12 +51,23 @@ fn shown(rt: &impl Abort, alloc: Global, request: &Request) -> String {
             adduct,
             formula,
             coverage,
+            certificate,
         } => format!(in alloc;
-            "{} {} {} {} {coverage}",
+            "{} {} {} {} {coverage} {certificate}",
             table.text(),
             text_or_dash(tracer),
             adduct.text(),
             formula.text()
+        ),
+        Request::Check {
+            table,
+            tracer,
+            certificate,
+        } => format!(in alloc;
+            "{} {} {}",
+            table.text(),
+            text_or_dash(tracer),
+            certificate.text()
         ),
     };
     text.expect(rt, "a text")
@@ -98,11 +109,24 @@ fn each_option_gives_its_field_and_defaults_the_others(rt: HostRuntime) {
         ),
         (
             "envelope --coverage=0.9 --formula C6H12O6 --table t.csv",
-            "t.csv - M C6H12O6 900000000000000000",
+            "t.csv - M C6H12O6 900000000000000000 false",
         ),
         (
             "envelope --tracer r.csv --adduct [M-H]- --coverage=0.9 --formula C6H12O6 --table t.csv",
-            "t.csv r.csv [M-H]- C6H12O6 900000000000000000",
+            "t.csv r.csv [M-H]- C6H12O6 900000000000000000 false",
+        ),
+        (
+            "envelope --certificate --coverage=0.9 --formula C6H12O6 --table t.csv",
+            "t.csv - M C6H12O6 900000000000000000 true",
+        ),
+        (
+            "envelope --coverage 0.9 --formula true --table t.csv --certificate",
+            "t.csv - M true 900000000000000000 true",
+        ),
+        ("check --table t --certificate c.txt", "t - c.txt"),
+        (
+            "check --certificate=true --tracer r.csv --table t",
+            "t r.csv true",
         ),
     ];
     for (words, fields) in rows {
@@ -115,15 +139,15 @@ fn a_value_may_hold_an_equals_sign_and_is_cut_at_the_first(rt: HostRuntime) {
     let rows = [
         (
             "envelope --table=a=b --formula X --coverage 0.5",
-            "a=b - M X 500000000000000000",
+            "a=b - M X 500000000000000000 false",
         ),
         (
             "envelope --table a=b --formula =X= --coverage 0.5",
-            "a=b - M =X= 500000000000000000",
+            "a=b - M =X= 500000000000000000 false",
         ),
         (
             "envelope --table==a --formula=X-y --coverage=0.5",
-            "=a - M X-y 500000000000000000",
+            "=a - M X-y 500000000000000000 false",
         ),
     ];
     for (words, fields) in rows {
@@ -168,6 +192,14 @@ fn words_that_make_no_request_are_refused(rt: HostRuntime) {
         "decompose --table t --mass 1 --mass 1 --da 0 --alphabet C",
         "decompose --table t --mass 1 --da 0 --alphabet C --mass=2",
         "decompose --mass=2 --table t --mass=1 --da 0 --alphabet C",
+        "envelope --table t --formula X --coverage 0.5 --certificate c",
+        "envelope --table t --formula X --coverage 0.5 --certificate=c",
+        "envelope --table t --formula X --coverage 0.5 --certificate=true",
+        "envelope --table t --formula X --coverage 0.5 --certificate=",
+        "envelope --table t --formula X --certificate --coverage 0.5 --certificate",
+        "envelope --table t --formula --certificate --coverage 0.5",
+        "check --table t --certificate",
+        "check --table t --certificate c --coverage 0.5",
     ];
     for row in rows {
         assert!(rt; matches!(answer(&rt, rt.alloc(), row), Err(WordsFault::Words)));
@@ -192,6 +224,8 @@ fn options_that_do_not_go_together_are_refused(rt: HostRuntime) {
         "decompose --table t --peaks p --da 0 --alphabet C --after C",
         "envelope --table t --formula X",
         "envelope --table t --coverage 0.5",
+        "check --table t",
+        "check --certificate c",
         "decompose --table t --mass 99999 --da 99999 --ppm 99999 --alphabet C",
         "decompose --table t --peaks p --da 0 --alphabet C --limit 0",
     ];
@@ -255,11 +289,11 @@ fn values_at_the_ends_of_their_ranges_are_read(rt: HostRuntime) {
         ),
         (
             "envelope --table t --formula X --coverage 0.999999",
-            "t - M X 999999000000000000",
+            "t - M X 999999000000000000 false",
         ),
         (
             "envelope --table t --formula X --coverage 0.000000000000000001",
-            "t - M X 1",
+            "t - M X 1 false",
         ),
     ];
     for (words, fields) in rows {
@@ -279,7 +313,7 @@ fn many_and_long_words_are_read(rt: HostRuntime) {
     let text = format!(in rt.alloc();
         "envelope --table {name} --formula={name} --coverage 0.5"
     ).expect(&rt, "words");
-    let fields = format!(in rt.alloc(); "{name} - M {name} 500000000000000000").expect(
+    let fields = format!(in rt.alloc(); "{name} - M {name} 500000000000000000 false").expect(
         &rt, "fields",
     );
     assert!(rt; asks(&rt, rt.alloc(), text.as_str(), fields.as_str()));
@@ -302,6 +336,7 @@ fn options_are_named_as_they_are_written(rt: HostRuntime) {
         "--coverage",
         "--limit",
         "--after",
+        "--certificate",
     ];
     for (place, name) in names.iter().enumerate() {
         if place < OPTION_COUNT as usize {

@@ -11,15 +11,20 @@ use crate::fault::WordsFault;
 use crate::options::{OptionName, ValueKind};
 use crate::word::Word;
 use clap::ArgMatches;
+use clap::parser::ValueSource;
 use fixed_decimal::{Fixed, whole_within};
 use mass_scaling::Tolerance;
 use std::alloc::{AllocError, Global};
 
-/// The value of an option, if it is given.
+/// The value of an option, if it is given. A value that `clap` puts in the place of an absent flag isn't.
 fn value_of<'a>(matches: &ArgMatches<'a>, option: OptionName) -> Option<&'a str>
     ensures { option_map (λ text. text.now) result ≡ matched (found_of matches.now) option }
 {
-    matches.get_str(option.name())
+    let name = option.name();
+    match matches.value_source(name)? {
+        ValueSource::CommandLine => matches.get_str(name),
+        ValueSource::DefaultValue => None,
+    }
 }
 
 /// Whether an option is given.

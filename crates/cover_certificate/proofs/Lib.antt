@@ -1,3 +1,4 @@
 pub mod PrintedMembers
+pub mod ReadableCovers
 pub mod CoverAnswers
 pub mod WrittenCovers

@@ -9,20 +9,22 @@ use Rattle.command_words.specs.WordReading as words
 use Rattle.command_words.specs.declared.request.Request.{Request}
 use Rattle.command_words.specs.declared.fault.WordsFault.{WordsFault}
 use Rattle.command_words.specs.declared.fault.WordsFault.TheVariants as words_fault
-use Rattle.isoform.specs.Answer.{Outcome, Formulas, Cover, IsReport, answer, answer_if, answer_of_request, file_names, names_if, names_of_request}
+use Rattle.isoform.specs.Answer.{Outcome, Formulas, Cover, Certified, Checked, IsReport, answer, answer_if, answer_of_request, file_names, names_if, names_of_request}
 use Rattle.isoform.specs.Asked.{Asked, Names, asked_as, result_as}
 use Rattle.isoform.specs.Claims.{Holds}
 use Rattle.isoform.specs.Refusals.{of_words_fault}
-use Rattle.isoform.specs.Reports.{cover_report, formulas_report}
-use Rattle.isoform.specs.Outside.{AnswersAs, Ending, EndsAs, IsPut, IsTold, NoWordsFault, OnlyReads, Outside, Puts, Reads, ReceivesSome, ReceivesSomeOf, RefusesWords, Shows, outside}
+use Rattle.isoform.specs.Reports.{accepted_report, certificate_report, cover_report, formulas_report}
+use Rattle.isoform.specs.Outside.{AnswersAs, Ending, EndsAs, IsPart, IsPut, IsTold, NoWordsFault, OnlyReads, Outside, Puts, Reads, ReceivesSome, ReceivesSomeOf, RefusesWords, Serves, Shelved, Shows, outside}
 use Rattle.isoform.specs.declared.refusal.Refusal.{Refusal}
 use Rattle.isoform.specs.declared.refusal.Refusal.TheVariants.{Words, Input, ReadFault, WriteFault, Memory}
-use Rattle.isoform.proofs.PartLaws.{all_names}
+use Rattle.isoform.proofs.PartLaws.{all_names, if_some_map}
 
 -- each outcome has a report
 some_report : (outcome : Outcome) → (report : List ℕ) × IsReport outcome report
 some_report (Formulas query) = (formulas_report query, refl)
 some_report (Cover query) = (cover_report query, refl)
+some_report (Certified query) = (certificate_report query, refl)
+some_report (Checked query) = (accepted_report query.certificate, refl)
 
 -- nothing more was received
 append_known-nil : (known : Option (List ℕ)) → known ≡ append_known known []
@@ -37,7 +39,7 @@ nothing_received (Ok outcome) received =
 nothing_received (Err refusal) received = refl
 
 -- what was read is refused: nothing was written
-pub unread_shows : {X : Type 0} (names before after : Names) (faults_before faults_after : ℕ) (received : Option (List ℕ))
+unread_shows : {X : Type 0} (names before after : Names) (faults_before faults_after : ℕ) (received : Option (List ℕ))
     (out_faults : ℕ) (refusal : Refusal) → Reads {X = X} names before after faults_before faults_after (Err refusal) →
     Shows names (outside before faults_before received out_faults) (outside after faults_after received out_faults)
     (Err refusal)
@@ -51,7 +53,7 @@ unread_shows names before after fb fa received out_faults WriteFault reads = abs
 unread_shows names before after fb fa received out_faults (Words fault) reads = absurd reads.only_reads
 
 -- the same, as the answer says it
-pub unread_ends : {X A : Type 0} (outcome : A → Outcome) (view : X → A) (expected : Asked A)
+unread_ends : {X A : Type 0} (outcome : A → Outcome) (view : X → A) (expected : Asked A)
     (before after : Names) (faults_before faults_after : ℕ) (received : Option (List ℕ)) (out_faults : ℕ)
     (refusal : Refusal) → OnlyReads {X = X} (Err refusal) → AnswersAs view expected before after (Err refusal) →
     EndsAs (asked_as outcome expected) (outside before faults_before received out_faults)
@@ -65,7 +67,7 @@ unread_ends outcome view expected before after fb fa received out_faults WriteFa
 unread_ends outcome view expected before after fb fa received out_faults (Words fault) other answers = absurd other
 
 -- what was read was served: the report was put, or some of it
-pub written_shows : {X : Type 0} (names before after : Names) (faults_before faults_after : ℕ) (x : X) (text : List ℕ)
+written_shows : {X : Type 0} (names before after : Names) (faults_before faults_after : ℕ) (x : X) (text : List ℕ)
     (received_before received_after : Option (List ℕ)) (out_before out_after : ℕ) (ending : Ending) →
     Reads {X = X} names before after faults_before faults_after (Ok x) →
     Puts text received_before received_after out_before out_after ending →
@@ -95,7 +97,7 @@ some_received outcome text before after is taken =
     record { report = text; is_report = is; taken = taken.0; received = taken.1 }
 
 -- the same, as the answer says it
-pub written_ends : {X A : Type 0} (outcome : A → Outcome) (view : X → A) (expected : Asked A) (before after : Names)
+written_ends : {X A : Type 0} (outcome : A → Outcome) (view : X → A) (expected : Asked A) (before after : Names)
     (faults_before faults_after : ℕ) (x : X) (text : List ℕ)
     (received_before received_after : Option (List ℕ)) (out_before out_after : ℕ) (ending : Ending) →
     AnswersAs view expected before after (Ok x) → Holds (outcome (view x)) → IsReport (outcome (view x)) text →
@@ -132,14 +134,14 @@ words_end given files request before after ending is ends =
     subst (λ (r : Result Request WordsFault). EndsAs (answer_if r files) before after ending) (sym is) ends
 
 -- no fault of the words comes of what reads, or of what writes
-pub reads_no_words : (X : Type 0) (refusal : Refusal) → OnlyReads {X = X} (Err refusal) → NoWordsFault {X = Unit {0}} (Err refusal)
+reads_no_words : (X : Type 0) (refusal : Refusal) → OnlyReads {X = X} (Err refusal) → NoWordsFault {X = Unit {0}} (Err refusal)
 reads_no_words X (Words fault) only = absurd only
 reads_no_words X (Input fault) only = tt
 reads_no_words X (ReadFault name) only = tt
 reads_no_words X WriteFault only = tt
 reads_no_words X Memory only = tt
 
-pub puts_no_words : (text : List ℕ) (before after : Option (List ℕ)) (faults_before faults_after : ℕ)
+puts_no_words : (text : List ℕ) (before after : Option (List ℕ)) (faults_before faults_after : ℕ)
     (ending : Ending) → Puts text before after faults_before faults_after ending → NoWordsFault ending
 puts_no_words text before after fb fa (Ok done) puts = tt
 puts_no_words text before after fb fa (Err (Words fault)) puts = absurd puts
@@ -147,6 +149,38 @@ puts_no_words text before after fb fa (Err (Input fault)) puts = absurd puts
 puts_no_words text before after fb fa (Err (ReadFault name)) puts = absurd puts
 puts_no_words text before after fb fa (Err WriteFault) puts = tt
 puts_no_words text before after fb fa (Err Memory) puts = tt
+
+-- a request of which a part that reads is refused
+pub unread_serves : {X A : Type 0} (outcome : A → Outcome) (view : X → A) (names : Names) (expected : Files → Asked A)
+    (before after : Shelved) (received : Option (List ℕ)) (out_faults : ℕ) (refusal : Refusal) →
+    IsPart {X = X} view names expected before after (Err refusal) →
+    Serves names (λ files. asked_as outcome (expected files)) before.held after.held
+    (outside before.asked before.faults received out_faults) (outside after.asked after.faults received out_faults)
+    (Err refusal)
+unread_serves {X = X} outcome view names expected before after received out_faults refusal part = record {
+  held = part.held;
+  words = reads_no_words X refusal part.reads.only_reads;
+  shows = unread_shows names before.asked after.asked before.faults after.faults received out_faults refusal part.reads;
+  answers = if_some_map before.held _ _ (λ files answers. unread_ends outcome view (expected files) before.asked
+      after.asked before.faults after.faults received out_faults refusal part.reads.only_reads answers) part.answers;
+}
+
+-- a request that was read and is reported
+pub written_serves : {X A : Type 0} (outcome : A → Outcome) (view : X → A) (names : Names) (expected : Files → Asked A)
+    (before after : Shelved) (x : X) (text : List ℕ) (received_before received_after : Option (List ℕ))
+    (out_before out_after : ℕ) (ending : Ending) → IsPart {X = X} view names expected before after (Ok x) →
+    Holds (outcome (view x)) → IsReport (outcome (view x)) text →
+    Puts text received_before received_after out_before out_after ending →
+    Serves names (λ files. asked_as outcome (expected files)) before.held after.held
+    (outside before.asked before.faults received_before out_before)
+    (outside after.asked after.faults received_after out_after) ending
+written_serves outcome view names expected before after x text rb ra ob oa ending part holds is puts = record {
+  held = part.held;
+  words = puts_no_words text rb ra ob oa ending puts;
+  shows = written_shows names before.asked after.asked before.faults after.faults x text rb ra ob oa ending part.reads puts;
+  answers = if_some_map before.held _ _ (λ files answers. written_ends outcome view (expected files) before.asked
+      after.asked before.faults after.faults x text rb ra ob oa ending answers holds is puts) part.answers;
+}
 
 -- words that are a request are refused for no fault of their own
 pub words_stand : (given : List (List ℕ)) (request : Request) (ending : Ending) → request_of given ≡ Ok request →

@@ -6,6 +6,8 @@ pub mod PeakLists
 pub mod Endings
 pub mod RunClauses
 pub mod CoverQueries
+pub mod CertifiedCovers
+pub mod CertificateRuns
 pub mod PrintedMasses
 pub mod Puts
 pub mod PutLines

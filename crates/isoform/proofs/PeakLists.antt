@@ -1,10 +1,12 @@
 -- The formulas of a peak are exactly those that it has, in order, and a page of them is where it should be.
 use Rattle.std.proofs.Common.{◌≡◌, ◌≢◌, ℕ, zero, suc, ◌+◌, Bool, true, false, cond, List, [], ◌∷◌, ◌++◌, get_or, length, take, drop, refl, sym, ap, ◌∙◌, subst, ◌↔◌, arith}
-use Rattle.std.specs.Prelude.{Option, Some, None, AllPairs, Contains, filter, is_some, not, position, option_map, IsTrue, ◌&&◌}
+use Rattle.reader_answers.specs.Answers.{◌>>=◌}
+use Rattle.std.specs.Prelude.{Option, Some, None, Result, Ok, Err, AllPairs, Contains, filter, is_some, not, position, option_map, IsTrue, ◌&&◌}
 use Rattle.std.specs.List.{All, AllByRecursion}
 use Rattle.std.proofs.lemmas.Bool.{and_parts, false≢true}
 use Rattle.std.proofs.lemmas.List.{get_or_default, append-nil, append_assoc, take-append-drop}
 use Rattle.std.proofs.lemmas.List.Elements.{All-contains, All-filter, All-from_recursion, filter_passes}
+use Rattle.std.proofs.lemmas.List.Elements.{Contains-append_left, Contains-append_right}
 use Rattle.std.proofs.lemmas.List.Kept.{AllPairs-filter}
 use Rattle.std.proofs.lemmas.Grind.{common_steps}
 use Rattle.mass_scaling.specs.Tolerances.{within}
@@ -18,6 +20,10 @@ use Rattle.decompose.proofs.FirstOfBox.{Rises-box}
 use Rattle.written_items.specs.declared.item.Item.{Item}
 use Rattle.element_table.specs.Elements.{TableEntries}
 use Rattle.formula_text.specs.Formulas.{formula_of}
+use Rattle.formula_text.specs.FormulaReader.{read_of}
+use Rattle.formula_text.specs.PrintedText.{printed_text}
+use Rattle.formula_text.specs.declared.fault.FormulaFault.{FormulaFault}
+use Rattle.formula_text.proofs.PrintedRows.{read_of-printed_text}
 use Rattle.adducts.specs.Adducts.{divisor_of}
 use Rattle.adducts.specs.Ions.{ion_mass, ion_of, mass_of_ion}
 use Rattle.golden_rules.specs.MeetsRules.{MeetsAll}
@@ -26,11 +32,19 @@ use Rattle.golden_rules.specs.declared.rule.Rule.{Rule}
 use Rattle.golden_rules.specs.declared.rules.Verdict.TheVariants.{Pass, Fails}
 use Rattle.golden_rules.proofs.MetRules.{IsVerdict-fails, IsVerdict-pass}
 use Rattle.golden_rules.proofs.OneVerdict.{one-verdict}
-use Rattle.candidates.specs.Grounds.{GroundValue}
+use Rattle.candidates.specs.Grounds.{GroundValue, IsGround}
 use Rattle.candidates.specs.PeakFormulas.{candidate_if, counts_of, formulas_of_peak, is_candidate, is_ion_within, is_pass, limits_of, meets_rules}
-use Rattle.isoform.specs.Claims.{AreAllOfPeak, EndsWithin, IsOfPeak, IsPageOf, PrintsPeak}
-use Rattle.isoform.specs.PageFormulas.{first_of, token_counts}
+use Rattle.candidates.specs.PeakFormulas.{formula_at, items_of}
+use Rattle.candidates.specs.Tokens.{fits, has_only}
+use Rattle.candidates.proofs.AlphabetCounts.{HasItems-at}
+use Rattle.candidates.proofs.AlphabetMasses.{box-length}
+use Rattle.candidates.proofs.TokenCounts.{at-box, at-IsFormula, box-tested, counts-formula}
+use Rattle.isoform.specs.Claims.{AreAllOfPeak, EndsWithin, IsOfPeak, IsPageOf, IsTokenOf, PrintsPeak}
+use Rattle.isoform.specs.PageFormulas.{asked_counts, first_of, token_counts}
 use Rattle.isoform.specs.Queries.{FormulaQuery}
+use Rattle.isoform.specs.Refusals.{or_fault_as}
+use Rattle.isoform.specs.Steps.{in_box}
+use Rattle.isoform.specs.declared.input_fault.InputFault.TheVariants.{After, NotInBox}
 
 -- ---- the box
 
@@ -314,12 +328,48 @@ page_is : (lists : List (List ℕ)) (token : Option (List ℕ)) (limit : Option 
 page_is lists None limit rises = page_of_all lists limit rises
 page_is lists (Some token) limit rises = page_behind lists token limit rises
 
--- what is printed for the peaks of a query
-pub prints_all : (query : FormulaQuery) → All (PrintsPeak query) query.mzs
-prints_all query = λ k d h.
-    let mz : ℕ = get_or query.mzs k d in
+-- ---- the formulas of a peak are tokens
+
+token_of : (premises : GroundValue) (mz : ℕ) (counts : List ℕ) → IsGround premises → IsOfPeak premises mz counts →
+    IsTokenOf premises counts
+token_of premises mz counts is peak =
+    let alphabet = premises.alphabet in
+    let formula = formula_at alphabet counts in
+    let inside = (box-tested alphabet formula (has_only (items_of alphabet) formula)
+    (fits (items_of alphabet) (limits_of alphabet) formula) refl refl).1
+    (at-box alphabet counts is.is_alphabet peak.in_box) in
+    let text_read : read_of premises.table (printed_text formula) ≡ Ok formula =
+    read_of-printed_text premises.table formula (at-IsFormula premises counts is (ap is_some peak.is_formula))
+    (HasItems-at premises.table alphabet counts is.entries) in
     record {
-      all = all_of_peak query.premises mz;
-      page = page_is (formulas_of_peak query.premises mz) (token_counts query.premises query.after) query.limit
-          (peak_rises query.premises mz);
+      read =
+          ap (λ (r : Result (List (Item × ℕ)) FormulaFault).
+          or_fault_as After r >>= λ f. in_box alphabet f >>= λ token. Ok (Some token)) text_read
+          ∙ ap (λ b. cond b (Ok formula) (Err NotInBox) >>= λ token. Ok (Some token)) inside;
+      place = ap Some (counts-formula alphabet counts is.is_alphabet (box-length alphabet counts peak.in_box));
+    }
+
+-- those of a page are of the peak
+page_tokens : (premises : GroundValue) (mz : ℕ) (page : List (List ℕ)) (token : Option (List ℕ)) (limit : Option ℕ) →
+    IsGround premises → AreAllOfPeak premises mz (formulas_of_peak premises mz) →
+    IsPageOf (formulas_of_peak premises mz) page token limit → All (IsTokenOf premises) page
+page_tokens premises mz page token limit is all of_peak = λ k d h.
+    let there : Contains (of_peak.before ++ page ++ of_peak.behind) (get_or page k d) =
+    Contains-append_left (of_peak.before ++ page) of_peak.behind (get_or page k d)
+    (Contains-append_right of_peak.before page (get_or page k d) (contains_all page k d h)) in
+    token_of premises mz (get_or page k d) is
+    ((all.exactly (get_or page k d)).0 (subst (λ l. Contains l (get_or page k d)) (sym of_peak.parts) there))
+
+-- what is printed for the peaks of a query
+pub prints_all : (query : FormulaQuery) → IsGround query.premises → All (PrintsPeak query) query.mzs
+prints_all query is = λ k d h.
+    let mz : ℕ = get_or query.mzs k d in
+    let all = all_of_peak query.premises mz in
+    let page = page_is (formulas_of_peak query.premises mz) (token_counts query.premises query.after) query.limit
+    (peak_rises query.premises mz) in
+    record {
+      all = all;
+      page = page;
+      tokens = page_tokens query.premises mz (asked_counts query mz) (token_counts query.premises query.after)
+          query.limit is all page;
     }

@@ -1,5 +1,6 @@
 -- What the status of a run tells, ending by ending.
-use Rattle.std.proofs.Common.{◌≡◌, ◌≢◌, ℕ, ◌+◌, ◌≤◌, List, [], ◌∷◌, ◌++◌, take, refl, sym, ap, ◌∙◌, subst, arith, inl, inr, lit≤}
+use Rattle.std.proofs.Common.{◌≡◌, ◌≢◌, ℕ, ◌+◌, ◌≤◌, List, [], ◌∷◌, ◌++◌, take, refl, sym, ap, ◌∙◌, subst, arith}
+use Rattle.std.proofs.Common.{inl, inr, lit≤}
 use Rattle.std.specs.Prelude.{Option, Some, Result, Ok, Err, IsErr, IfErr, IfSome, IsOkAnd, slice_get, ◌⊎◌}
 use Rattle.std.proofs.lemmas.List.{append_assoc, take_more}
 use Rattle.std.proofs.lemmas.Option.{get_or_from_slice_get, slice_get_within}
@@ -11,29 +12,34 @@ use Rattle.isoform.specs.Answer.{Outcome}
 use Rattle.isoform.specs.Asked.{Asked, Names}
 use Rattle.isoform.specs.Claims.{Holds}
 use Rattle.isoform.specs.Notes.{note_of, status_of, status_of_fault}
-use Rattle.isoform.specs.Outside.{EndsAs, IsPut, Outside, ReceivesAll, ReceivesSome, ReceivesSomeOf, RefusesWords, Shows, TellsLastName, TellsNote, status_of_result}
+use Rattle.isoform.specs.Outside.{Ending, EndsAs, IsPut, Outside, ReceivesAll, ReceivesSome, ReceivesSomeOf}
+use Rattle.isoform.specs.Outside.{RefusesWords, Shows, TellsLastName, TellsNote, status_of_result}
 use Rattle.isoform.specs.Refusals.{of_words_fault}
 use Rattle.isoform.specs.declared.input_fault.InputFault.{InputFault}
-use Rattle.isoform.specs.declared.input_fault.InputFault.TheVariants.{FileLimit, Table, Tracer, Peaks, Alphabet, Adduct, Rules, After, NotInBox, Formula, NoIon, CandidateLimit, Layer}
+use Rattle.isoform.specs.declared.input_fault.InputFault.TheVariants.{FileLimit, Table, Tracer, Peaks, Alphabet, Adduct, Rules, After, NotInBox, Formula, NoIon, CandidateLimit, Layer, Certificate, Rejected, CertificateLimit}
 use Rattle.isoform.specs.declared.refusal.Refusal.{Refusal}
 use Rattle.isoform.specs.declared.refusal.Refusal.TheVariants.{Words, Input, ReadFault, WriteFault, Memory}
-use Rattle.isoform.proofs.PartLaws.{if_some_map}
+use Rattle.isoform.proofs.PartLaws.{all_names, if_some_map}
 
--- the status of what was given is from 3 to 6
-pub status_range : (fault : InputFault) → (3 ≤ status_of_fault fault) × (status_of_fault fault ≤ 6)
-status_range (FileLimit name) = (lit≤ tt, lit≤ tt)
-status_range (Table fault) = (lit≤ tt, lit≤ tt)
-status_range (Tracer fault) = (lit≤ tt, lit≤ tt)
-status_range (Peaks fault) = (lit≤ tt, lit≤ tt)
-status_range (Alphabet fault) = (lit≤ tt, lit≤ tt)
-status_range (Adduct fault) = (lit≤ tt, lit≤ tt)
-status_range (Rules fault) = (lit≤ tt, lit≤ tt)
-status_range (After fault) = (lit≤ tt, lit≤ tt)
-status_range NotInBox = (lit≤ tt, lit≤ tt)
-status_range (Formula fault) = (lit≤ tt, lit≤ tt)
-status_range NoIon = (lit≤ tt, lit≤ tt)
-status_range (CandidateLimit peak) = (lit≤ tt, lit≤ tt)
-status_range (Layer ion) = (lit≤ tt, lit≤ tt)
+-- the status of what was given is 1, or from 3 to 6
+pub status_range : (fault : InputFault) →
+    ((status_of_fault fault ≡ 2) → ⊥) × (1 ≤ status_of_fault fault) × (status_of_fault fault ≤ 6)
+status_range (FileLimit name) = ((λ e. omega (arith, e)), lit≤ tt, lit≤ tt)
+status_range (Table fault) = ((λ e. omega (arith, e)), lit≤ tt, lit≤ tt)
+status_range (Tracer fault) = ((λ e. omega (arith, e)), lit≤ tt, lit≤ tt)
+status_range (Peaks fault) = ((λ e. omega (arith, e)), lit≤ tt, lit≤ tt)
+status_range (Alphabet fault) = ((λ e. omega (arith, e)), lit≤ tt, lit≤ tt)
+status_range (Adduct fault) = ((λ e. omega (arith, e)), lit≤ tt, lit≤ tt)
+status_range (Rules fault) = ((λ e. omega (arith, e)), lit≤ tt, lit≤ tt)
+status_range (After fault) = ((λ e. omega (arith, e)), lit≤ tt, lit≤ tt)
+status_range NotInBox = ((λ e. omega (arith, e)), lit≤ tt, lit≤ tt)
+status_range (Formula fault) = ((λ e. omega (arith, e)), lit≤ tt, lit≤ tt)
+status_range NoIon = ((λ e. omega (arith, e)), lit≤ tt, lit≤ tt)
+status_range (CandidateLimit peak) = ((λ e. omega (arith, e)), lit≤ tt, lit≤ tt)
+status_range (Layer ion) = ((λ e. omega (arith, e)), lit≤ tt, lit≤ tt)
+status_range (Certificate fault) = ((λ e. omega (arith, e)), lit≤ tt, lit≤ tt)
+status_range (Rejected judgement) = ((λ e. omega (arith, e)), lit≤ tt, lit≤ tt)
+status_range CertificateLimit = ((λ e. omega (arith, e)), lit≤ tt, lit≤ tt)
 
 -- ---- the words
 
@@ -46,7 +52,7 @@ pub refused_words : (request : Result Request WordsFault) (told : Refusal) (stat
     RefusesWords request (Err told) → status ≡ status_of told → status ≡ 2 → IsErr request
 refused_words request (Words fault) status refuses is two = words_are_refused request fault refuses
 refused_words request (Input fault) status refuses is two =
-    let range = status_range fault in absurd (omega (arith, is, two, range.0))
+    absurd ((status_range fault).0 (sym is ∙ two))
 refused_words request (ReadFault name) status refuses is two = absurd (omega (arith, is, two))
 refused_words request WriteFault status refuses is two = absurd (omega (arith, is, two))
 refused_words request Memory status refuses is two = absurd (omega (arith, is, two))
@@ -78,6 +84,40 @@ request_served (Ok request) status refuses = tt
 request_served (Err fault) status (inl same) = cc
 request_served (Err fault) status (inr memory) = cc
 
+-- ---- the names asked
+
+names_up_to : (answer : Asked Outcome) (before after : Outside) (ending : Ending) (status : ℕ) →
+    EndsAs answer before after ending → status ≡ status_of_result ending → status ≢ 7 → status ≢ 9 →
+    after.asked ≡ before.asked ++ answer.names
+names_up_to answer before after (Ok done) status ends is seven nine = ends.1
+names_up_to answer before after (Err (Words fault)) status ends is seven nine = ends.1
+names_up_to answer before after (Err (Input fault)) status ends is seven nine = ends.1
+names_up_to answer before after (Err (ReadFault name)) status ends is seven nine = absurd (seven is)
+names_up_to answer before after (Err WriteFault) status ends is seven nine = ends.1
+names_up_to answer before after (Err Memory) status ends is seven nine = absurd (nine is)
+
+pub asked_up_to : (held : Option Files) (answer : Files → Asked Outcome) (before after : Outside) (ending : Ending)
+    (status : ℕ) → IfSome held (λ files. EndsAs (answer files) before after ending) →
+    status ≡ status_of_result ending → status ≢ 7 → status ≢ 9 →
+    IfSome held (λ files. after.asked ≡ before.asked ++ (answer files).names)
+asked_up_to held answer before after ending status ends is seven nine =
+    if_some_map held _ _ (λ files end. names_up_to (answer files) before after ending status end is seven nine) ends
+
+names_within : (answer : Asked Outcome) (before after : Outside) (ending : Ending) →
+    EndsAs answer before after ending → (asked : ℕ) × (after.asked ≡ before.asked ++ take asked answer.names)
+names_within answer before after (Ok done) ends = all_names answer.names before.asked after.asked ends.1
+names_within answer before after (Err (Words fault)) ends = all_names answer.names before.asked after.asked ends.1
+names_within answer before after (Err (Input fault)) ends = all_names answer.names before.asked after.asked ends.1
+names_within answer before after (Err (ReadFault name)) ends = ends
+names_within answer before after (Err WriteFault) ends = all_names answer.names before.asked after.asked ends.1
+names_within answer before after (Err Memory) ends = ends.1
+
+pub asked_within : (held : Option Files) (answer : Files → Asked Outcome) (before after : Outside) (ending : Ending) →
+    IfSome held (λ files. EndsAs (answer files) before after ending) →
+    IfSome held (λ files. (asked : ℕ) × (after.asked ≡ before.asked ++ take asked (answer files).names))
+asked_within held answer before after ending ends =
+    if_some_map held _ _ (λ files end. names_within (answer files) before after ending end) ends
+
 -- ---- what was received
 
 some_of : (result : Result Outcome Refusal) (before after : Option (List ℕ)) →
@@ -96,9 +136,9 @@ some_with answer before after (Words fault) status ends is (inr nine) = absurd (
 some_with answer before after (ReadFault name) status ends is (inl eight) = absurd (omega (arith, is, eight))
 some_with answer before after (ReadFault name) status ends is (inr nine) = absurd (omega (arith, is, nine))
 some_with answer before after (Input fault) status ends is (inl eight) =
-    let range = status_range fault in absurd (omega (arith, is, eight, range.1))
+    let range = status_range fault in absurd (omega (arith, is, eight, range.2))
 some_with answer before after (Input fault) status ends is (inr nine) =
-    let range = status_range fault in absurd (omega (arith, is, nine, range.1))
+    let range = status_range fault in absurd (omega (arith, is, nine, range.2))
 
 pub some_received : (held : Option Files) (answer : Files → Asked Outcome) (before after : Outside) (told : Refusal)
     (status : ℕ) → IfSome held (λ files. EndsAs (answer files) before after (Err told)) →
@@ -121,8 +161,8 @@ noted_with answer before after (ReadFault name) status nb fb na fa ends put is s
 noted_with answer before after WriteFault status nb fb na fa ends put is seven eight nine = absurd (eight is)
 noted_with answer before after Memory status nb fb na fa ends put is seven eight nine = absurd (nine is)
 
-pub noted : (held : Option Files) (answer : Files → Asked Outcome) (before after : Outside) (told : Refusal) (status : ℕ)
-    (nb : Option (List ℕ)) (fb : ℕ) (na : Option (List ℕ)) (fa : ℕ) →
+pub noted : (held : Option Files) (answer : Files → Asked Outcome) (before after : Outside) (told : Refusal)
+    (status : ℕ) (nb : Option (List ℕ)) (fb : ℕ) (na : Option (List ℕ)) (fa : ℕ) →
     IfSome held (λ files. EndsAs (answer files) before after (Err told)) →
     IsPut (note_of told) nb fb na fa → status ≡ status_of told → status ≢ 7 → status ≢ 8 → status ≢ 9 →
     IfSome held (λ files. TellsNote nb fb na fa (answer files).result)
@@ -146,7 +186,7 @@ noted_nothing held answer before after notes faults ends =
 -- a status of 0 comes of no refusal
 pub never_zero : (told : Refusal) (status : ℕ) → status ≡ status_of told → status ≡ 0 → ⊥
 never_zero (Words fault) status is zero = omega (arith, is, zero)
-never_zero (Input fault) status is zero = let range = status_range fault in omega (arith, is, zero, range.0)
+never_zero (Input fault) status is zero = let range = status_range fault in omega (arith, is, zero, range.1)
 never_zero (ReadFault name) status is zero = omega (arith, is, zero)
 never_zero WriteFault status is zero = omega (arith, is, zero)
 never_zero Memory status is zero = omega (arith, is, zero)
@@ -170,7 +210,7 @@ last_name names before after (ReadFault name) status nb fb na fa shows put is se
 }
 last_name names before after (Words fault) status nb fb na fa shows put is seven = absurd (omega (arith, is, seven))
 last_name names before after (Input fault) status nb fb na fa shows put is seven =
-    let range = status_range fault in absurd (omega (arith, is, seven, range.1))
+    let range = status_range fault in absurd (omega (arith, is, seven, range.2))
 last_name names before after WriteFault status nb fb na fa shows put is seven = absurd (omega (arith, is, seven))
 last_name names before after Memory status nb fb na fa shows put is seven = absurd (omega (arith, is, seven))
 
@@ -179,7 +219,7 @@ pub write_note : (told : Refusal) (status : ℕ) (nb : Option (List ℕ)) (fb : 
 write_note WriteFault status nb fb na fa put is eight = put
 write_note (Words fault) status nb fb na fa put is eight = absurd (omega (arith, is, eight))
 write_note (Input fault) status nb fb na fa put is eight =
-    let range = status_range fault in absurd (omega (arith, is, eight, range.1))
+    let range = status_range fault in absurd (omega (arith, is, eight, range.2))
 write_note (ReadFault name) status nb fb na fa put is eight = absurd (omega (arith, is, eight))
 write_note Memory status nb fb na fa put is eight = absurd (omega (arith, is, eight))
 
@@ -188,6 +228,6 @@ pub memory_note : (told : Refusal) (status : ℕ) (nb : Option (List ℕ)) (fb :
 memory_note Memory status nb fb na fa put is nine = put
 memory_note (Words fault) status nb fb na fa put is nine = absurd (omega (arith, is, nine))
 memory_note (Input fault) status nb fb na fa put is nine =
-    let range = status_range fault in absurd (omega (arith, is, nine, range.1))
+    let range = status_range fault in absurd (omega (arith, is, nine, range.2))
 memory_note (ReadFault name) status nb fb na fa put is nine = absurd (omega (arith, is, nine))
 memory_note WriteFault status nb fb na fa put is nine = absurd (omega (arith, is, nine))

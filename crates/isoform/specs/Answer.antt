@@ -1,35 +1,42 @@
 -- The program's answer: what is to be printed for its words and the files, or the first refusal.
-use Rattle.std.specs.Prelude.{◌≡◌, ℕ, ℤ, pos, ◌-ℤ◌, ◌*ℤ◌, List, [], ◌∷◌, ◌++◌, Option, Result, Ok, Err}
+use Rattle.std.specs.Prelude.{◌≡◌, ℕ, true, false, ℤ, pos, ◌-ℤ◌, ◌*ℤ◌, List, [], ◌∷◌, ◌++◌, Option, Result, Ok, Err}
 use Rattle.reader_answers.specs.Answers.{◌>>=◌}
 use Rattle.outside_ports.specs.Files.{Files}
 use Rattle.element_table.specs.Elements.{TableEntries}
 use Rattle.written_items.specs.declared.item.Item.{Item}
 use Rattle.adducts.specs.Adducts.{AdductValue}
 use Rattle.candidates.specs.Grounds.{GroundValue}
+use Rattle.cover_certificate.specs.CoverCertificates.{cover_certificate}
 use Rattle.command_words.specs.WordReading.{request_of}
 use Rattle.command_words.specs.declared.fault.WordsFault.{WordsFault}
 use Rattle.command_words.specs.declared.request.Request.{Request}
-use Rattle.command_words.specs.declared.request.Request.TheVariants.{Decompose, Envelope}
+use Rattle.command_words.specs.declared.request.Request.TheVariants.{Check, Decompose, Envelope}
 use Rattle.isoform.specs.Asked.{Asked, Names, asked_as, asks_none, ◌and_then◌}
 use Rattle.isoform.specs.PageFormulas.{within_limit}
-use Rattle.isoform.specs.Queries.{CoverQuery, FormulaQuery}
-use Rattle.isoform.specs.Refusals.{of_words_fault}
-use Rattle.isoform.specs.Reports.{cover_report, formulas_report}
-use Rattle.isoform.specs.Steps.{adduct_step, cover_step, ground_step, ion_step, peaks_names, peaks_step}
-use Rattle.isoform.specs.Steps.{rules_names, table_step, token_step, tracer_names, tracer_step}
+use Rattle.isoform.specs.Queries.{CheckQuery, CoverQuery, FormulaQuery}
+use Rattle.isoform.specs.Refusals.{of_words_fault, or_fault_as}
+use Rattle.isoform.specs.Reports.{accepted_report, asked_cover, certificate_report, cover_report, formulas_report}
+use Rattle.isoform.specs.Steps.{adduct_step, certificate_step, cover_step, ground_step, ion_step, judged_step}
+use Rattle.isoform.specs.Steps.{peaks_names, peaks_step, rules_names, table_step, token_step, tracer_names, tracer_step}
+use Rattle.isoform.specs.declared.check.CheckOptions.{CheckOptions}
 use Rattle.isoform.specs.declared.decomposition.DecomposeOptions.{DecomposeOptions}
 use Rattle.isoform.specs.declared.envelope.EnvelopeOptions.{EnvelopeOptions}
 use Rattle.isoform.specs.declared.input_fault.InputFault.{InputFault}
+use Rattle.isoform.specs.declared.input_fault.InputFault.TheVariants.{CertificateLimit}
 
--- what is to be printed: formulas, or a cover
+-- what is to be printed: formulas, a cover, the certificate of a cover, or that a certificate is accepted
 pub data Outcome : Type 0 where
   Formulas : FormulaQuery → Outcome
   Cover : CoverQuery → Outcome
+  Certified : CoverQuery → Outcome
+  Checked : CheckQuery → Outcome
 
 -- the bytes are the report of an outcome
 abbrev pub IsReport : Outcome → List ℕ → Type 0
 IsReport (Formulas query) bytes = bytes ≡ formulas_report query
 IsReport (Cover query) bytes = bytes ≡ cover_report query
+IsReport (Certified query) bytes = bytes ≡ certificate_report query
+IsReport (Checked query) bytes = bytes ≡ accepted_report query.certificate
 
 -- the page that is asked for: the token may be refused, and then the number of formulas
 abbrev pub page_step : GroundValue → List ℕ → Option ℕ → Option (List ℕ) → Result FormulaQuery InputFault
@@ -78,6 +85,33 @@ envelope_query options files =
 abbrev pub envelope_names : EnvelopeOptions → Names
 envelope_names options = (options.table ∷ []) ++ tracer_names options.tracer
 
+-- the text of the certificate of the cover that is asked for, which may be too long
+abbrev pub certificate_text : CoverQuery → Result (List ℕ) InputFault
+certificate_text query = or_fault_as (λ fault. CertificateLimit) (cover_certificate (asked_cover query))
+
+-- the query whose certificate isn't
+abbrev pub short_enough : CoverQuery → Result CoverQuery InputFault
+short_enough query = certificate_text query >>= λ text. Ok query
+
+-- what `envelope` asks over files where it is to print the certificate
+abbrev pub certified_query : EnvelopeOptions → Files → Asked CoverQuery
+certified_query options files = envelope_query options files and_then λ query. asks_none (short_enough query)
+
+-- what `check` asks over files, behind its table
+abbrev pub check_over : TableEntries → List ℕ → Files → Asked CheckQuery
+check_over table name files =
+    certificate_step table name files and_then λ certificate. asks_none (judged_step table certificate)
+
+abbrev pub check_query : CheckOptions → Files → Asked CheckQuery
+check_query options files =
+    table_step options.table files and_then λ table.
+    tracer_step table options.tracer files and_then λ traced.
+    check_over traced options.certificate files
+
+-- the names of its files
+abbrev pub check_names : CheckOptions → Names
+check_names options = (options.table ∷ []) ++ (tracer_names options.tracer ++ options.certificate ∷ [])
+
 -- what comes of a request over files: the first step that refuses is the answer
 abbrev pub answer_of_request : Request → Files → Asked Outcome
 answer_of_request (Decompose table mass peaks tolerance alphabet adduct rules limit after) files =
@@ -92,7 +126,7 @@ answer_of_request (Decompose table mass peaks tolerance alphabet adduct rules li
       limit = limit;
       after = after;
     }) files)
-answer_of_request (Envelope table tracer adduct formula coverage) files =
+answer_of_request (Envelope table tracer adduct formula coverage false) files =
     asked_as Cover (envelope_query (record {
       table = table;
       tracer = tracer;
@@ -100,6 +134,16 @@ answer_of_request (Envelope table tracer adduct formula coverage) files =
       formula = formula;
       coverage = coverage;
     }) files)
+answer_of_request (Envelope table tracer adduct formula coverage true) files =
+    asked_as Certified (certified_query (record {
+      table = table;
+      tracer = tracer;
+      adduct = adduct;
+      formula = formula;
+      coverage = coverage;
+    }) files)
+answer_of_request (Check table tracer certificate) files =
+    asked_as Checked (check_query (record { table = table; tracer = tracer; certificate = certificate }) files)
 
 -- the same, where the words are a request
 abbrev pub answer_if : Result Request WordsFault → Files → Asked Outcome
@@ -124,7 +168,7 @@ names_of_request (Decompose table mass peaks tolerance alphabet adduct rules lim
       limit = limit;
       after = after;
     })
-names_of_request (Envelope table tracer adduct formula coverage) =
+names_of_request (Envelope table tracer adduct formula coverage certificate) =
     envelope_names (record {
       table = table;
       tracer = tracer;
@@ -132,6 +176,8 @@ names_of_request (Envelope table tracer adduct formula coverage) =
       formula = formula;
       coverage = coverage;
     })
+names_of_request (Check table tracer certificate) =
+    check_names (record { table = table; tracer = tracer; certificate = certificate })
 
 -- the same of words, which have none where they are no request
 abbrev pub names_if : {E : Type 0} → Result Request E → Names

@@ -1,25 +1,33 @@
--- What holds of what a run printed: of the formulas of peaks, and of an envelope in exact weights.
-use Rattle.std.specs.Prelude.{◌≡◌, ◌≢◌, ℕ, ◌≤◌, List, [], ◌∷◌, ◌++◌, length, Option, Some, MatchOption, All, AllPairs, Contains, map, IsTrue, ◌↔◌}
+-- What holds of what a run printed: of the formulas of peaks, of an envelope in exact weights, and of certificates.
+use Rattle.std.specs.Prelude.{◌≡◌, ◌≢◌, ℕ, ◌≤◌, List, [], ◌∷◌, ◌++◌, length, Ok, Option, Some, MatchOption, All, AllPairs, Contains, map, IsTrue, ◌↔◌}
 use Rattle.mass_scaling.specs.Tolerances.{Within}
 use Rattle.decompose.specs.CountLists.{IsInBox, comes_after}
 use Rattle.decompose.specs.Enumeration.{lists_after}
 use Rattle.element_table.specs.Elements.{TableEntries}
 use Rattle.written_items.specs.declared.item.Item.{Item}
 use Rattle.formula_text.specs.Formulas.{formula_of}
+use Rattle.formula_text.specs.PrintedText.{printed_text}
 use Rattle.adducts.specs.Adducts.{divisor_of}
 use Rattle.adducts.specs.Ions.{ion_of, mass_of_ion}
 use Rattle.golden_rules.specs.MeetsRules.{MeetsAll}
 use Rattle.candidates.specs.Grounds.{GroundValue}
-use Rattle.candidates.specs.PeakFormulas.{counts_of, formulas_of_peak, limits_of}
+use Rattle.candidates.specs.PeakFormulas.{counts_of, formula_at, formulas_of_peak, limits_of}
 use Rattle.multinomial_bounds.specs.Bounds.{IsEnclosure}
 use Rattle.multinomial_bounds.specs.Isotopologue.{isotopologue_weight, all_weight}
 use Rattle.isotopologue_sets.specs.Covers.{IsCover}
 use Rattle.isotopologue_text.specs.Isotopologues.{formula_elements}
 use Rattle.cover_certificate.specs.FormulaCovers.{CoverEntries, member_numbers}
-use Rattle.isoform.specs.Answer.{Outcome, Formulas, Cover}
+use Rattle.certificate_text.specs.CertificateReader.{certificate_of}
+use Rattle.certificate_text.specs.WrittenCertificates.{written_text}
+use Rattle.cover_certificate.specs.CoverCertificates.{certificate_of_cover}
+use Rattle.certificate_check.specs.CertificateMeaning.{CertificateMeans}
+use Rattle.certificate_check.specs.Judgements.{judgement}
+use Rattle.certificate_check.specs.declared.judgement.Judgement.TheVariants.{Accepted}
+use Rattle.isoform.specs.Answer.{Outcome, Formulas, Cover, Certified, Checked}
 use Rattle.isoform.specs.PageFormulas.{asked_counts, token_counts}
 use Rattle.isoform.specs.Queries.{FormulaQuery}
 use Rattle.isoform.specs.Reports.{asked_cover}
+use Rattle.isoform.specs.Steps.{token_step}
 
 -- A count list of the alphabet's box is of a peak: it is that of a formula within the limits, which has an ion within
 -- the limits, the ion's exact mass is within tolerance of the m/z, and the formula meets the rules.
@@ -61,11 +69,20 @@ pub record IsPageOf (lists page : List (List ℕ)) (token : Option (List ℕ)) (
   pub ends : EndsWithin limit page behind
   pub next : (first : List (List ℕ)) (last : List ℕ) → page ≡ first ++ last ∷ [] → lists_after lists last ≡ behind
 
--- the formulas that are printed for a peak: the page asked for, of all formulas of the peak
+-- The printed text of the formula of a count list, given as a token, is read as just that formula, whose counts are the
+-- list: the page that it asks for begins behind it.
+pub record IsTokenOf (premises : GroundValue) (counts : List ℕ) : Type 0 where
+  pub read : token_step premises (Some (printed_text (formula_at premises.alphabet counts)))
+      ≡ Ok (Some (formula_at premises.alphabet counts))
+  pub place : token_counts premises (Some (formula_at premises.alphabet counts)) ≡ Some counts
+
+-- the formulas that are printed for a peak: the page asked for, of all formulas of the peak; the text of each, and so of
+-- the last, is a token that asks for the page behind it
 pub record PrintsPeak (query : FormulaQuery) (mz : ℕ) : Type 0 where
   pub all : AreAllOfPeak query.premises mz (formulas_of_peak query.premises mz)
   pub page : IsPageOf (formulas_of_peak query.premises mz) (asked_counts query mz)
       (token_counts query.premises query.after) query.limit
+  pub tokens : All (IsTokenOf query.premises) (asked_counts query mz)
 
 -- What a cover of a formula claims, by the exact weights of its isotopologues: its first `size` members, which are
 -- printed, reach the coverage; no set of distinct isotopologues with fewer members than its bound does; its first
@@ -78,7 +95,16 @@ pub record HoldsTrue (table : TableEntries) (cover : CoverEntries) : Type 0 wher
       (all_weight (formula_elements table cover.formula)))
       (map (member_numbers (formula_elements table cover.formula)) cover.layer)
 
--- what is claimed of an outcome: the formulas of each peak are exactly those, and what its cover claims is true
+-- The certificate of a cover passes its check: its text is read as it by the table that the cover was made with, and it
+-- is accepted.
+pub record PassesCheck (table : TableEntries) (cover : CoverEntries) : Type 0 where
+  pub read_again : certificate_of table (written_text (certificate_of_cover cover)) ≡ Ok (certificate_of_cover cover)
+  pub accepted : judgement table (certificate_of_cover cover) ≡ Accepted
+
+-- What is claimed of an outcome: the formulas of each peak are exactly those; what its cover claims is true, and the
+-- certificate that was printed of it passes its check; what the certificate that was accepted says is true.
 abbrev pub Holds : Outcome → Type 0
 Holds (Formulas query) = All (PrintsPeak query) query.mzs
 Holds (Cover query) = HoldsTrue query.table (asked_cover query)
+Holds (Certified query) = HoldsTrue query.table (asked_cover query) × PassesCheck query.table (asked_cover query)
+Holds (Checked query) = CertificateMeans query.table query.certificate

@@ -8,4 +8,5 @@ pub mod PageFormulas
 pub mod Reports
 pub mod Answer
 pub mod Claims
+pub mod CertificateClaims
 pub mod Outside

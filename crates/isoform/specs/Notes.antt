@@ -10,9 +10,12 @@ use Rattle.adducts.specs.AdductFaults.{adduct_fault_words}
 use Rattle.golden_rules.specs.RulesFaults.{rules_fault_words}
 use Rattle.formula_text.specs.FormulaFaults.{formula_fault_words}
 use Rattle.formula_text.specs.PrintedText.{printed_text}
+use Rattle.certificate_text.specs.CertificateFaults.{certificate_fault_words}
+use Rattle.certificate_check.specs.JudgementWords.{judgement_words}
 use Rattle.isoform.specs.declared.input_fault.InputFault.{InputFault}
 use Rattle.isoform.specs.declared.input_fault.InputFault.TheVariants.{FileLimit, Table, Tracer, Peaks, Alphabet, Adduct, Rules}
 use Rattle.isoform.specs.declared.input_fault.InputFault.TheVariants.{After, NotInBox, Formula, NoIon, CandidateLimit, Layer}
+use Rattle.isoform.specs.declared.input_fault.InputFault.TheVariants.{Certificate, CertificateLimit, Rejected}
 use Rattle.isoform.specs.declared.refusal.Refusal.{Refusal}
 use Rattle.isoform.specs.declared.refusal.Refusal.TheVariants.{Words, Input, ReadFault, WriteFault, Memory}
 
@@ -31,6 +34,9 @@ status_of_fault (Formula fault) = 5
 status_of_fault NoIon = 5
 status_of_fault (CandidateLimit peak) = 6
 status_of_fault (Layer ion) = 6
+status_of_fault (Certificate fault) = 5
+status_of_fault (Rejected judgement) = 1
+status_of_fault CertificateLimit = 6
 
 abbrev pub status_of : Refusal → ℕ
 status_of (Words fault) = 2
@@ -54,6 +60,9 @@ fault_message (Formula fault) = codes "formula: " ++ formula_fault_words fault
 fault_message NoIon = codes "ion: not defined"
 fault_message (CandidateLimit peak) = codes "limit: candidates of peak " ++ decimal peak
 fault_message (Layer ion) = codes "limit: layer of " ++ printed_text ion
+fault_message (Certificate fault) = codes "certificate text: " ++ certificate_fault_words fault
+fault_message (Rejected judgement) = codes "certificate: " ++ judgement_words judgement
+fault_message CertificateLimit = codes "limit: certificate"
 
 abbrev pub message_of : Refusal → List ℕ
 message_of (Words fault) = words_fault_words fault

@@ -158,6 +158,15 @@ EndsAs answer before after (Err (ReadFault name)) =
 EndsAs answer before after (Err refusal) =
     (answer.result ≡ Err refusal) × (after.asked ≡ before.asked ++ answer.names)
 
+-- What a run that serves a request shows, which may ask for files of these names, and of which this is the answer over
+-- files: the shelf holds what it held, what is shown of the devices, and how the run ends.
+pub record Serves (names : Names) (answer : Files → Asked Outcome) (held_before held_after : Option Files)
+    (before after : Outside) (ending : Ending) : Type 0 where
+  pub held : held_after ≡ held_before
+  pub words : NoWordsFault ending
+  pub shows : Shows names before after ending
+  pub answers : IfSome held_before (λ files. EndsAs (answer files) before after ending)
+
 -- the refusal that is told is the one that came, or want of memory for its note; a write fault takes none
 abbrev pub IsTold : Refusal → Refusal → Type 0
 IsTold came told = (told ≡ came) ⊎ ((told ≡ Memory) × (came ≡ WriteFault → ⊥))

@@ -3,6 +3,7 @@ use Rattle.std.specs.Prelude.{ℕ, ℤ, List, Option}
 use Rattle.element_table.specs.Elements.{TableEntries}
 use Rattle.written_items.specs.declared.item.Item.{Item}
 use Rattle.candidates.specs.Grounds.{GroundValue}
+use Rattle.certificate_text.specs.Certificates.{CertificateEntries}
 
 -- The formulas of peaks of these m/z: all of them, or those that come after the counts of a token, and of these all or
 -- the first so many.
@@ -18,3 +19,8 @@ pub record CoverQuery : Type 0 where
   pub ion : List (Item × ℕ)
   pub shift : ℤ
   pub coverage : ℕ
+
+-- a certificate that is to be checked by a table
+pub record CheckQuery : Type 0 where
+  pub table : TableEntries
+  pub certificate : CertificateEntries

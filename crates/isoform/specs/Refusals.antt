@@ -14,10 +14,12 @@ use Rattle.golden_rules.specs.declared.fault.RulesFault.{RulesFault}
 use Rattle.golden_rules.specs.declared.fault.RulesFault.TheVariants as rules
 use Rattle.formula_text.specs.declared.fault.FormulaFault.{FormulaFault}
 use Rattle.formula_text.specs.declared.fault.FormulaFault.TheVariants as formula
+use Rattle.certificate_text.specs.declared.fault.CertificateFault.{CertificateFault}
+use Rattle.certificate_text.specs.declared.fault.CertificateFault.TheVariants as certificate
 use Rattle.command_words.specs.declared.fault.WordsFault.{WordsFault}
 use Rattle.command_words.specs.declared.fault.WordsFault.TheVariants as words
 use Rattle.isoform.specs.declared.input_fault.InputFault.{InputFault}
-use Rattle.isoform.specs.declared.input_fault.InputFault.TheVariants.{Table, Tracer, Peaks, Alphabet, Adduct, Rules, After, Formula}
+use Rattle.isoform.specs.declared.input_fault.InputFault.TheVariants.{Table, Tracer, Peaks, Alphabet, Adduct, Rules, After, Formula, Certificate}
 use Rattle.isoform.specs.declared.refusal.Refusal.{Refusal}
 use Rattle.isoform.specs.declared.refusal.Refusal.TheVariants.{Words, Input, Memory}
 
@@ -57,6 +59,10 @@ of_after_fault fault = Input (After fault)
 abbrev pub of_formula_fault : FormulaFault → Refusal
 of_formula_fault (formula.Memory e) = Memory
 of_formula_fault fault = Input (Formula fault)
+
+abbrev pub of_certificate_fault : CertificateFault → Refusal
+of_certificate_fault (certificate.Memory e) = Memory
+of_certificate_fault fault = Input (Certificate fault)
 
 -- an answer whose faults are those of a text or a file, as faults of what was given
 abbrev pub or_fault_as : {A E : Type 0} → (E → InputFault) → Result A E → Result A InputFault

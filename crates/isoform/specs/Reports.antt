@@ -2,8 +2,11 @@
 use Rattle.std.specs.Prelude.{ℕ, List, length, ◌++◌}
 use Rattle.std.specs.List.{flat_map}
 use Rattle.candidates.specs.Lines.{line_at}
+use Rattle.certificate_text.specs.Certificates.{CertificateEntries}
+use Rattle.certificate_text.specs.WrittenCertificates.{written_text}
+use Rattle.cover_certificate.specs.CoverCertificates.{certificate_of_cover}
 use Rattle.cover_certificate.specs.FormulaCovers.{CoverEntries, cover_of}
-use Rattle.report_lines.specs.ReportLines.{decompose_head, envelope_text, peak_line}
+use Rattle.report_lines.specs.ReportLines.{accepted_line, decompose_head, envelope_text, peak_line}
 use Rattle.isoform.specs.PageFormulas.{asked_counts, numbered}
 use Rattle.isoform.specs.Queries.{CoverQuery, FormulaQuery}
 
@@ -25,3 +28,11 @@ asked_cover query = cover_of query.table query.ion query.coverage
 
 abbrev pub cover_report : CoverQuery → List ℕ
 cover_report query = envelope_text query.shift (asked_cover query)
+
+-- the text of the certificate of this cover
+abbrev pub certificate_report : CoverQuery → List ℕ
+certificate_report query = written_text (certificate_of_cover (asked_cover query))
+
+-- the report of a certificate that is accepted
+abbrev pub accepted_report : CertificateEntries → List ℕ
+accepted_report certificate = accepted_line certificate.size certificate.bound

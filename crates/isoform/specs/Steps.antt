@@ -23,12 +23,18 @@ use Rattle.candidates.specs.Grounds.{GroundValue}
 use Rattle.candidates.specs.PeakFormulas.{items_of, limits_of}
 use Rattle.candidates.specs.Tokens.{fits, has_only}
 use Rattle.cover_certificate.specs.FormulaCovers.{CoverEntries, cover_unless_too_many}
+use Rattle.certificate_text.specs.Certificates.{CertificateEntries}
+use Rattle.certificate_text.specs.CertificateReader.{certificate_of}
+use Rattle.certificate_check.specs.Judgements.{judgement}
+use Rattle.certificate_check.specs.declared.judgement.Judgement.{Judgement}
+use Rattle.certificate_check.specs.declared.judgement.Judgement.TheVariants.{Accepted}
 use Rattle.isoform.specs.Asked.{Asked, Names, asks_none, asks_file, ◌and_then◌}
+use Rattle.isoform.specs.Queries.{CheckQuery}
 use Rattle.isoform.specs.Refusals.{or_fault_as}
 use Rattle.isoform.specs.declared.input_fault.InputFault.{InputFault}
 use Rattle.isoform.specs.declared.input_fault.InputFault.TheVariants.{Table, Tracer, Peaks, Alphabet, Adduct, Rules}
-use Rattle.isoform.specs.declared.input_fault.InputFault.TheVariants.{After, NotInBox, Formula, NoIon, Layer}
-use Rattle.isoform.specs.declared.inputs.TheConstants.{MAX_FILE_BYTES}
+use Rattle.isoform.specs.declared.input_fault.InputFault.TheVariants.{After, NotInBox, Formula, NoIon, Layer, Certificate, Rejected}
+use Rattle.isoform.specs.declared.inputs.TheConstants.{MAX_CERTIFICATE_BYTES, MAX_FILE_BYTES}
 
 -- what bytes are read as
 abbrev pub table_in : List ℕ → Result TableEntries InputFault
@@ -128,3 +134,20 @@ ion_step table adduct text = formula_step table text >>= λ formula. or_fault No
 -- the cover of an ion
 abbrev pub cover_step : TableEntries → List (Item × ℕ) → ℕ → Result CoverEntries InputFault
 cover_step table ion coverage = or_fault_as (λ fault. Layer ion) (cover_unless_too_many table ion coverage)
+
+-- the certificate of a file
+abbrev pub certificate_in : TableEntries → List ℕ → Result CertificateEntries InputFault
+certificate_in table bytes = or_fault_as Certificate (certificate_of table bytes)
+
+abbrev pub certificate_step : TableEntries → List ℕ → Files → Asked CertificateEntries
+certificate_step table name files =
+    asks_file MAX_CERTIFICATE_BYTES name files and_then λ bytes. asks_none (certificate_in table bytes)
+
+-- a certificate of which this is judged: it is refused unless it is accepted
+abbrev pub if_accepted : Judgement → CheckQuery → Result CheckQuery InputFault
+if_accepted Accepted query = Ok query
+if_accepted judged query = Err (Rejected judged)
+
+abbrev pub judged_step : TableEntries → CertificateEntries → Result CheckQuery InputFault
+judged_step table certificate =
+    if_accepted (judgement table certificate) (record { table = table; certificate = certificate })

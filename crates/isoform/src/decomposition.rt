@@ -6,6 +6,7 @@ ghost use Rattle.mass_scaling.specs.declared.limits.TheConstants.{MAX_MZ};
 ghost use Rattle.command_words.specs.Requests.{IsWithin};
 ghost use Rattle.command_words.specs.declared.options.TheConstants.{MIN_MZ};
 ghost use Rattle.candidates.specs.Enumeration.{counts_left};
+ghost use Rattle.candidates.specs.Grounds.{IsGround};
 ghost use Rattle.candidates.specs.Lines.{line_at};
 ghost use Rattle.candidates.specs.Tokens.{IsInAlphabetBox};
 ghost use Rattle.isoform.specs.Answer.{decompose_names, decompose_query, page_step};
@@ -22,7 +23,7 @@ use crate::inputs::{ground_of, peaks_of, table_of};
 use crate::output::put_text;
 use crate::refusal::Refusal;
 use candidates::{Candidates, Ground, ResumeFault};
-use command_words::Word;
+use command_words::{MAX_LIMIT, Word};
 use formula_text::{Formula, read_formula};
 use mass_scaling::Tolerance;
 use outside_ports::{Shelf, Sink, Steps};
@@ -33,6 +34,9 @@ use std::sync::ledger::{Blank, Ledger};
 
 /// The most candidates of a peak.
 pub const MAX_CANDIDATES: u64 = 1_048_576;
+
+// A page is never longer than that, so a request for one is refused at no peak.
+const _: () = prove!(MAX_LIMIT == MAX_CANDIDATES);
 
 /// An m/z with which a token is tried: whether it is in the box rests on the alphabet alone.
 const ANY_MZ: u64 = 1;
@@ -62,6 +66,7 @@ pub struct Decomposition {
 
 impl Model for Decomposition {
     ghost use Rattle.std.specs.Prelude.{All, IfSome};
+    ghost use Rattle.candidates.specs.Grounds.{IsGround};
     ghost use Rattle.candidates.specs.Tokens.{IsInAlphabetBox};
     ghost use Rattle.isoform.specs.Inputs.{IsMz};
     ghost use Rattle.isoform.specs.Queries.{FormulaQuery};
@@ -70,7 +75,8 @@ impl Model for Decomposition {
 
     ghost view = { λ d. record { premises = d.premises; mzs = d.mzs.items; after = d.after; limit = d.limit } };
 
-    ghost invariant = { λ d. All IsMz d.mzs.items × IfSome d.after (IsInAlphabetBox d.premises.alphabet) };
+    ghost invariant = { λ d. All IsMz d.mzs.items × IfSome d.after (IsInAlphabetBox d.premises.alphabet)
+        × IsGround d.premises };
 }
 
 impl Decomposition {
@@ -109,7 +115,8 @@ impl Decomposition {
         limit: Option<u64>,
         after: &Option<Word>,
     ) -> Result<Decomposition, Refusal>
-        requires { All IsMz mzs.items }
+        requires mzs { All IsMz mzs.items }
+        requires premises { IsGround premises }
         ensures { GivesInput (λ d. d) (page_step premises mzs.items limit after.now) result }
     {
         let after = token_of(alloc, &premises, after)?;

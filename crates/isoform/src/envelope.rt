@@ -5,8 +5,8 @@ ghost use Rattle.command_words.specs.declared.options.TheConstants.{MIN_COVERAGE
 ghost use Rattle.element_table.specs.Elements.{IsTable};
 ghost use Rattle.formula_text.specs.Formulas.{IsFormula};
 ghost use Rattle.formula_text.specs.Masses.{HasItems};
-ghost use Rattle.isoform.specs.Answer.{cover_query, electron_shift, envelope_names, envelope_over, envelope_query};
-ghost use Rattle.isoform.specs.Claims.{HoldsTrue};
+ghost use Rattle.isoform.specs.Answer.{certificate_text, cover_query, electron_shift, envelope_names, envelope_over, envelope_query};
+ghost use Rattle.isoform.specs.Claims.{HoldsTrue, PassesCheck};
 ghost use Rattle.isoform.specs.Inputs.{IsElectronShift};
 ghost use Rattle.isoform.specs.Outside.{IsPart, Puts, shelved};
 ghost use Rattle.isoform.specs.Refusals.{GivesInput};
@@ -20,7 +20,9 @@ use crate::output::put_text;
 use crate::refusal::Refusal;
 use adducts::{Adduct, ion_of};
 use command_words::Word;
-use cover_certificate::{Cover, CoverFault, CoverMember, cover_of};
+use cover_certificate::{
+    CertificateWrite, Cover, CoverFault, CoverMember, cover_of, write_certificate,
+};
 use element_table::Table;
 use formula_text::{Formula, read_formula};
 use outside_ports::{Shelf, Sink};
@@ -50,7 +52,7 @@ impl Model for Envelope {
     ghost use Rattle.std.specs.Prelude.{◌≡◌, All};
     ghost use Rattle.cover_certificate.specs.FormulaCovers.{cover_of};
     ghost use Rattle.report_lines.specs.ReportLines.{IsPrintedWith, cover_members};
-    ghost use Rattle.isoform.specs.Claims.{HoldsTrue};
+    ghost use Rattle.isoform.specs.Claims.{HoldsTrue, PassesCheck};
     ghost use Rattle.isoform.specs.Inputs.{IsElectronShift};
     ghost use Rattle.isoform.specs.Queries.{CoverQuery};
 
@@ -66,7 +68,8 @@ impl Model for Envelope {
     ghost invariant = { λ e. (e.cover ≡ cover_of e.table e.cover.formula e.cover.coverage)
         × HoldsTrue e.table e.cover
         × All (IsPrintedWith e.shift) (cover_members e.cover)
-        × IsElectronShift e.shift };
+        × IsElectronShift e.shift
+        × PassesCheck e.table e.cover };
 }
 
 impl Envelope {
@@ -123,6 +126,19 @@ impl Envelope {
             }),
             Err(CoverFault::Memory) => Err(Refusal::Memory),
             Err(CoverFault::TooMany { .. }) => Err(Refusal::Input(InputFault::Layer(ion))),
+        }
+    }
+
+    /// The text of the certificate of the cover. One of more than 268,435,456 bytes is refused.
+    pub fn certificate(&self, alloc: Global) -> Result<Vec<u8>, Refusal>
+        ensures text { GivesInput (λ text. text.items) (certificate_text self.now) result }
+        ensures holds { HoldsTrue self.now.table (asked_cover self.now) }
+        ensures passes { PassesCheck self.now.table (asked_cover self.now) }
+    {
+        match write_certificate(alloc, &self.cover) {
+            Ok(text) => Ok(text),
+            Err(CertificateWrite::TooLong) => Err(Refusal::Input(InputFault::CertificateLimit)),
+            Err(CertificateWrite::Memory) => Err(Refusal::Memory),
         }
     }
 

@@ -4,7 +4,9 @@ ghost use Rattle.isoform.specs.Notes.{fault_message, status_of_fault};
 
 use adducts::AdductFault;
 use alphabet_text::AlphabetFault;
+use certificate_check::Judgement;
 use command_words::Word;
+use cover_certificate::CertificateFault;
 use element_table::{TableFault, TracerFault};
 use formula_text::{Formula, FormulaFault};
 use golden_rules::RulesFault;
@@ -40,6 +42,12 @@ pub enum InputFault {
     CandidateLimit { peak: u64 },
     /// This ion has too many isotopologues in a layer.
     Layer(Formula),
+    /// The bytes of the certificate have a fault.
+    Certificate(CertificateFault),
+    /// The certificate isn't accepted: this is judged of it.
+    Rejected(Judgement),
+    /// The text of the cover's certificate would have more than 268,435,456 bytes.
+    CertificateLimit,
 }
 
 impl InputFault {
@@ -48,6 +56,7 @@ impl InputFault {
         ensures { result ≡ status_of_fault self.now }
     {
         match self {
+            InputFault::Rejected(_) => 1,
             InputFault::Table(_) | InputFault::Tracer(_) => 3,
             InputFault::Peaks(_) => 4,
             InputFault::Alphabet(_)
@@ -56,9 +65,12 @@ impl InputFault {
             | InputFault::After(_)
             | InputFault::NotInBox
             | InputFault::Formula(_)
-            | InputFault::NoIon => 5,
-            InputFault::FileLimit(_) | InputFault::CandidateLimit { .. } | InputFault::Layer(_) =>
-                6,
+            | InputFault::NoIon
+            | InputFault::Certificate(_) => 5,
+            InputFault::FileLimit(_)
+            | InputFault::CandidateLimit { .. }
+            | InputFault::Layer(_)
+            | InputFault::CertificateLimit => 6,
         }
     }
 
@@ -101,6 +113,13 @@ impl InputFault {
                 Ok(message.into_bytes())
             }
             InputFault::Layer(ion) => labelled(alloc, b"limit: layer of ", &ion.print()?),
+            InputFault::Certificate(fault) => {
+                labelled(alloc, b"certificate text: ", fault.words(alloc)?.as_bytes())
+            }
+            InputFault::Rejected(judgement) => {
+                labelled(alloc, b"certificate: ", &judgement.words(alloc)?)
+            }
+            InputFault::CertificateLimit => Vec::from_slice(alloc, b"limit: certificate"),
         }
     }
 }

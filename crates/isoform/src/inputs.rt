@@ -7,11 +7,13 @@ ghost use Rattle.command_words.specs.Requests.{IsWithin};
 ghost use Rattle.command_words.specs.declared.options.TheConstants.{MIN_MZ};
 ghost use Rattle.alphabet_text.specs.Alphabets.{IsEntryOf};
 ghost use Rattle.formula_text.specs.Masses.{HasItems};
+ghost use Rattle.candidates.specs.Grounds.{IsGround};
 ghost use Rattle.isoform.specs.Asked.{asks_file};
 ghost use Rattle.isoform.specs.Inputs.{IsMz};
 ghost use Rattle.isoform.specs.Outside.{IsPart, shelved};
 ghost use Rattle.isoform.specs.Refusals.{GivesInput};
-ghost use Rattle.isoform.specs.Steps.{adduct_step, alphabet_step, ground_step, mzs_in, peaks_names, peaks_step};
+ghost use Rattle.isoform.specs.Steps.{adduct_step, alphabet_step, certificate_in, certificate_step, ground_step};
+ghost use Rattle.isoform.specs.Steps.{mzs_in, peaks_names, peaks_step};
 ghost use Rattle.isoform.specs.Steps.{rules_in, rules_names, rules_step, table_in, table_step, traced_in};
 ghost use Rattle.isoform.specs.Steps.{tracer_names, tracer_step};
 
@@ -21,6 +23,7 @@ use adducts::{Adduct, read_adduct};
 use alphabet_text::{Alphabet, read_alphabet};
 use candidates::Ground;
 use command_words::Word;
+use cover_certificate::{Certificate, read_certificate};
 use element_table::{Table, read_table};
 use golden_rules::{Rules, golden, read_rules};
 use mass_scaling::Tolerance;
@@ -30,6 +33,9 @@ use std::alloc::Global;
 
 /// The most bytes of a file of elements, of a tracer, of peaks or of rules: 16,777,216.
 pub const MAX_FILE_BYTES: u64 = 16_777_216;
+
+/// The most bytes of the file of a certificate.
+pub const MAX_CERTIFICATE_BYTES: u64 = 268_435_456;
 
 /// The bytes of a file. It is refused where it is longer than the limit or can't be read.
 fn fetch_file<H: Shelf>(
@@ -175,6 +181,30 @@ pub fn rules_of<H: Shelf>(
     rules_in(alloc, table, &bytes)
 }
 
+/// The certificate that bytes are.
+fn certificate_in(alloc: Global, table: &Table, bytes: &[u8]) -> Result<Certificate, Refusal>
+    ensures certificate { GivesInput (λ certificate. certificate) (certificate_in table.now bytes.now) result }
+    ensures known { IfOk result (λ certificate. HasItems table.now certificate.formula) }
+{
+    Ok(read_certificate(alloc, table, bytes)?)
+}
+
+/// The certificate of a file.
+pub fn certificate_of<H: Shelf>(
+    alloc: Global,
+    table: &Table,
+    name: &Word,
+    shelf: &mut H,
+) -> Result<Certificate, Refusal>
+    ensures part { IsPart (λ certificate. certificate) (name.now ∷ []) (certificate_step table.now name.now)
+        (shelved (H.held shelf.old) (H.asked shelf.old) (H.faults shelf.old))
+        (shelved (H.held shelf.new) (H.asked shelf.new) (H.faults shelf.new)) result }
+    ensures known { IfOk result (λ certificate. HasItems table.now certificate.formula) }
+{
+    let bytes = fetch_file(alloc, name, MAX_CERTIFICATE_BYTES, shelf)?;
+    certificate_in(alloc, table, &bytes)
+}
+
 /// What candidates are searched on.
 pub fn ground_of<H: Shelf>(
     alloc: Global,
@@ -186,10 +216,11 @@ pub fn ground_of<H: Shelf>(
     shelf: &mut H,
 ) -> Result<Ground, Refusal>
     requires { IsTolerance tolerance }
-    ensures { IsPart (λ premises. premises) (rules_names rules.now)
+    ensures part { IsPart (λ premises. premises) (rules_names rules.now)
         (ground_step table tolerance alphabet.now adduct.now rules.now)
         (shelved (H.held shelf.old) (H.asked shelf.old) (H.faults shelf.old))
         (shelved (H.held shelf.new) (H.asked shelf.new) (H.faults shelf.new)) result }
+    ensures premises { IfOk result IsGround }
 {
     let alphabet = alphabet_in(alloc, &table, alphabet)?;
     let adduct = adduct_in(alloc, &table, adduct)?;

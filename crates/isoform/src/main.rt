@@ -7,10 +7,13 @@
 //! Contracts see words and reports as their bytes, and files and streams as `outside_ports` shows them. The program
 //! stands on `command_words` for its words, on `element_table`, `peak_text`, `alphabet_text`, `adducts`,
 //! `golden_rules` and `formula_text` for what it reads, on `candidates` for the formulas of a peak, on
-//! `cover_certificate` for the cover of an ion, on `report_lines` for lines, and on `outside_ports` for its devices.
+//! `cover_certificate` for the cover of an ion and its certificate, on `certificate_check` for the judgement of one, on
+//! `report_lines` for lines, and on `outside_ports` for its devices.
 //! Nothing stands above it. It gives out [`request_of`] and [`cover_of`] with their types too.
 #![tactic(auto)]
 
+mod certified;
+mod check;
 mod decomposition;
 mod envelope;
 mod input_fault;
@@ -22,13 +25,18 @@ mod run;
 use outside_ports::{FileShelf, Sink, StreamSink};
 
 #[cfg(test)]
+mod certificate_tests;
+#[cfg(test)]
 mod envelope_tests;
 #[cfg(test)]
 mod option_tests;
 #[cfg(test)]
+mod rows;
+#[cfg(test)]
 mod tests;
 
-ghost use Rattle.std.specs.Prelude.{◌≡◌, ◌≢◌, ◌⊎◌, drop};
+ghost use Rattle.std.specs.Prelude.{◌≡◌, ◌≢◌, ◌<◌, drop};
+ghost use Rattle.outside_ports.specs.Faults.{Rose};
 
 use crate::refusal::{MEMORY_NOTE, WRITE_FAULT_NOTE};
 pub use command_words::{Request, Word, WordsFault, request_of};
@@ -81,17 +89,19 @@ fn words_behind(mut words: Vec<String>) -> Vec<String>
     words
 }
 
-/// The status once what is left of the report in the output's buffer is written out: where a whole report can't be
-/// written to its end, that is a write fault.
+/// The status once what is left of the report in the output's buffer is written out: where that fails it is 8, and a write
+/// fault is told, unless the run had told it.
 fn finish<W: Write + Drop, M: Sink>(status: u8, out: &mut StreamSink<W>, notes: &mut M) -> u8
-    ensures refused { status ≢ 0 → result ≡ status }
-    ensures written { (result ≡ status) ⊎ (result ≡ 8) }
+    // The status stays where the output's count of faults is as it was, and is 8 where it is greater.
+    ensures kept { ¬ Rose out.old.1 out.new.1 → result ≡ status }
+    ensures failed { out.old.1 < out.new.1 → result ≡ 8 }
+    ensures write_fault { result ≢ status → result ≡ 8 }
 {
-    match out.finish() {
-        Err(_) if status == 0 => {
-            let _ = notes.put(WRITE_FAULT_NOTE);
-            8
-        }
-        _ => status,
+    if out.finish().is_ok() {
+        return status;
     }
+    if status != 8 {
+        let _ = notes.put(WRITE_FAULT_NOTE);
+    }
+    8
 }

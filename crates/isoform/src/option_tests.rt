@@ -1,43 +1,17 @@
 //! Whole runs over a shelf of small files: peaks, tolerances, adducts, rules, pages and tracers, and what of these is
 //! refused.
-use crate::run;
-use outside_ports::{MemoryShelf, MemorySink};
-use std::alloc::{AllocError, Global};
-use std::process::Abort;
+use crate::rows::{AB, ELEMENTS, EQUAL, LIGHT, check_cuts, check_rows, refused, report, unread};
 use std::test::Fail;
 
-const ELEMENTS: &[u8] = b"symbol,number,mass,abundance,valence
-e-,0,0.000548579909,0,0
-H,1,1.00782503223,0.999885,1
-H,2,2.01410177812,0.000115,1
-C,12,12,0.9893,4
-C,13,13.00335483507,0.0107,4
-N,14,14.00307400443,0.99636,3
-N,15,15.00010889888,0.00364,3
-O,16,15.99491461957,0.99757,2
-O,17,16.99913175650,0.00038,2
-O,18,17.99915961286,0.00205,2
-Na,23,22.989769282,1,1
-";
-
-const AB: &[u8] =
-    b"symbol,number,mass,abundance,valence\ne-,0,0.000548579909,0,0\nA,10,10,1,1\nB,10,10.00001,1,1\n";
-
-const X: &[u8] = b"symbol,number,mass,abundance,valence
-e-,0,0.000548579909,0,0
-X,10,10,0.5,1
-X,11,11,0.5,1
-";
-
-/// Four symbols of half a Da, of which 200 atoms make 1,373,701 formulas.
-const LIGHT: &[u8] =
-    b"symbol,number,mass,abundance,valence\ne-,0,0.0005,0,0\nA,1,0.5,1,1\nB,1,0.5,1,1\nC,1,0.5,1,1\nD,1,0.5,1,1\n";
+/// Rules that only formulas of one symbol meet.
+const ONE_SYMBOL: &[u8] =
+    b"ratio A D 0 0\nratio B D 0 0\nratio C D 0 0\nratio A C 0 0\nratio B C 0 0\nratio A B 0 0\n";
 
 /// The files of each run, with their names.
-const FILES: [(&str, &[u8]); 18] = [
+const FILES: [(&str, &[u8]); 19] = [
     ("elements.csv", ELEMENTS),
     ("ab.csv", AB),
-    ("x.csv", X),
+    ("equal.csv", EQUAL),
     ("light.csv", LIGHT),
     ("bad.csv", b"symbol\n"),
     ("empty.csv", b"mz,intensity\n"),
@@ -49,6 +23,7 @@ const FILES: [(&str, &[u8]); 18] = [
     ("c.txt", b"group C 0 6\n"),
     ("own.txt", b"# own\n\nratio H C 3 1\n"),
     ("odd.txt", b"seniors\n"),
+    ("few.txt", ONE_SYMBOL),
     (
         "tracer.csv",
         b"symbol,number,abundance12\nX,10,0.25\nX,11,0.75\n",
@@ -58,68 +33,8 @@ const FILES: [(&str, &[u8]); 18] = [
     ("none", b"senior\n"),
 ];
 
-/// The words of a run, and what it must answer.
-#[derive(Clone, Copy)]
-struct Row {
-    words: &'static str,
-    status: u8,
-    out: &'static [u8],
-    note: &'static [u8],
-}
-
-/// A row that is answered by a report.
-fn report(words: &'static str, out: &'static [u8]) -> Row {
-    Row {
-        words,
-        status: 0,
-        out,
-        note: b"",
-    }
-}
-
-/// A row that is refused.
-fn refused(words: &'static str, status: u8, note: &'static [u8]) -> Row {
-    Row {
-        words,
-        status,
-        out: b"",
-        note,
-    }
-}
-
-/// The words of a text, which stand between blanks.
-fn words_of(alloc: Global, text: &str) -> Result<Vec<String>, AllocError> {
-    let mut words = Vec::new(alloc);
-    for word in text.split(' ') {
-        words.push(String::from_str(alloc, word)?)?;
-    }
-    Ok(words)
-}
-
-fn shelf_of_files(alloc: Global) -> Result<MemoryShelf, AllocError> {
-    let mut shelf = MemoryShelf::new(alloc);
-    for (name, bytes) in FILES {
-        shelf.add(String::from_str(alloc, name)?, bytes.to_vec(alloc)?)?;
-    }
-    Ok(shelf)
-}
-
-fn check_rows(rt: &impl Abort, alloc: Global, rows: &[Row]) -> Result<(), AllocError> {
-    for row in rows {
-        let words = words_of(alloc, row.words)?;
-        let mut shelf = shelf_of_files(alloc)?;
-        let mut out = MemorySink::new(alloc, 4096)?;
-        let mut notes = MemorySink::new(alloc, 4096)?;
-        let status = run(alloc, &words, &mut shelf, &mut out, &mut notes);
-        assert!(rt; status == row.status, "{}", row.words);
-        assert!(rt; out.bytes() == row.out, "{}", row.words);
-        assert!(rt; notes.bytes() == row.note, "{}", row.words);
-    }
-    Ok(())
-}
-
 #[test]
-fn formulas_of_peaks_within_a_tolerance(rt: HostRuntime) -> Result<(), Fail> {
+fn the_formulas_of_each_peak_are_within_its_tolerance(rt: HostRuntime) -> Result<(), Fail> {
     let rows = [
         // No peak, and two.
         report(
@@ -181,12 +96,12 @@ formula B 10.000010000000 10.000010000000 0
 ",
         ),
     ];
-    check_rows(&rt, rt.alloc(), &rows)?;
+    check_rows(&rt, rt.alloc(), FILES.as_slice(), &rows)?;
     Ok(())
 }
 
 #[test]
-fn formulas_of_ions_and_by_rules(rt: HostRuntime) -> Result<(), Fail> {
+fn formulas_have_the_ion_asked_for_and_meet_the_rules(rt: HostRuntime) -> Result<(), Fail> {
     let rows = [
         // C3H10 has no O to lose.
         report(
@@ -236,7 +151,7 @@ isotopologue [12C][1H]5 17.038576581241 988731283319879847 988731283319879850
 ",
         ),
         report(
-            "envelope --table x.csv --formula X2 --adduct M --tracer tracer.csv --coverage 0.75",
+            "envelope --table equal.csv --formula X2 --adduct M --tracer tracer.csv --coverage 0.75",
             b"envelope X2
 coverage 750000000000000000
 size 2
@@ -247,12 +162,12 @@ isotopologue [10X][11X] 21.000000000000 375000000000000000 375000000000000000
 ",
         ),
     ];
-    check_rows(&rt, rt.alloc(), &rows)?;
+    check_rows(&rt, rt.alloc(), FILES.as_slice(), &rows)?;
     Ok(())
 }
 
 #[test]
-fn pages_of_formulas(rt: HostRuntime) -> Result<(), Fail> {
+fn a_page_begins_behind_its_token_and_ends_at_its_limit(rt: HostRuntime) -> Result<(), Fail> {
     let rows = [
         report(
             "decompose --table ab.csv --mass 10 --ppm 1 --alphabet AB --limit 1",
@@ -308,13 +223,23 @@ formula A199B 100.000000000000 100.000000000000 0
 formula A200 100.000000000000 100.000000000000 0
 ",
         ),
+        // The limit counts what meets the rules, and not all that is within tolerance.
+        report(
+            "decompose --table light.csv --mass 100 --da 0 --alphabet ABCD --rules few.txt",
+            b"decompose 1\npeak 1 100.000000000000
+formula D200 100.000000000000 100.000000000000 0
+formula C200 100.000000000000 100.000000000000 0
+formula B200 100.000000000000 100.000000000000 0
+formula A200 100.000000000000 100.000000000000 0
+",
+        ),
         refused(
             "decompose --table light.csv --peaks many.csv --da 0 --alphabet ABCD",
             6,
             b"isoform: limit: candidates of peak 2\n",
         ),
     ];
-    check_rows(&rt, rt.alloc(), &rows)?;
+    check_rows(&rt, rt.alloc(), FILES.as_slice(), &rows)?;
     Ok(())
 }
 
@@ -357,12 +282,12 @@ fn what_a_request_names_is_refused_in_order(rt: HostRuntime) -> Result<(), Fail>
             b"isoform: rules: line 1: bad line\n",
         ),
         refused(
-            "envelope --table x.csv --tracer other.csv --formula q --coverage 0.5 --adduct q",
+            "envelope --table equal.csv --tracer other.csv --formula q --coverage 0.5 --adduct q",
             3,
             b"isoform: tracer: record 2: mass number\n",
         ),
         refused(
-            "envelope --table x.csv --tracer weightless.csv --formula X --coverage 0.5",
+            "envelope --table equal.csv --tracer weightless.csv --formula X --coverage 0.5",
             3,
             b"isoform: tracer: no weight: X\n",
         ),
@@ -397,104 +322,61 @@ fn what_a_request_names_is_refused_in_order(rt: HostRuntime) -> Result<(), Fail>
             b"isoform: value: --limit\n",
         ),
     ];
-    check_rows(&rt, rt.alloc(), &rows)?;
+    check_rows(&rt, rt.alloc(), FILES.as_slice(), &rows)?;
     Ok(())
 }
 
 #[test]
 fn each_fetch_may_fail(rt: HostRuntime) -> Result<(), Fail> {
-    let alloc = rt.alloc();
-    // The words, the number of a fetch that fails, and the note, which has the name asked.
-    let cases = [
-        (
+    // The fetch of this number, and the name asked.
+    let rows = [
+        unread(
             "decompose --table ab.csv --peaks two.csv --ppm 1 --alphabet AB --rules c.txt",
             1,
-            b"isoform: read fault: ab.csv\n".as_slice(),
+            b"isoform: read fault: ab.csv\n",
         ),
-        (
+        unread(
             "decompose --table ab.csv --peaks two.csv --ppm 1 --alphabet AB --rules c.txt",
             2,
             b"isoform: read fault: two.csv\n",
         ),
-        (
+        unread(
             "decompose --table ab.csv --peaks two.csv --ppm 1 --alphabet AB --rules c.txt",
             3,
             b"isoform: read fault: c.txt\n",
         ),
-        (
-            "envelope --table x.csv --tracer tracer.csv --formula X --coverage 0.5",
+        unread(
+            "envelope --table equal.csv --tracer tracer.csv --formula X --coverage 0.5",
             2,
             b"isoform: read fault: tracer.csv\n",
         ),
-        (
+        refused(
             "decompose --table ab.csv --mass 10 --ppm 1 --alphabet AB --rules away.txt",
-            4,
+            7,
             b"isoform: read fault: away.txt\n",
         ),
     ];
-    for (text, call, note) in cases {
-        let words = words_of(alloc, text)?;
-        let mut shelf = shelf_of_files(alloc)?;
-        shelf.fail_at(call)?;
-        let mut out = MemorySink::new(alloc, 4096)?;
-        let mut notes = MemorySink::new(alloc, 4096)?;
-        let status = run(alloc, &words, &mut shelf, &mut out, &mut notes);
-        assert!(rt; status == 7, "{text}");
-        assert!(rt; out.bytes().is_empty(), "{text}");
-        assert!(rt; notes.bytes() == note, "{text}");
-    }
+    check_rows(&rt, rt.alloc(), FILES.as_slice(), &rows)?;
     Ok(())
 }
 
 #[test]
 fn a_report_of_two_peaks_is_cut_where_a_put_fails(rt: HostRuntime) -> Result<(), Fail> {
-    let alloc = rt.alloc();
-    let words = words_of(
-        alloc,
+    check_cuts(
+        &rt,
+        rt.alloc(),
+        FILES.as_slice(),
         "decompose --table ab.csv --peaks two.csv --ppm 1 --alphabet AB",
+        &[
+            (1, 3),
+            (2, 3),
+            (3, 3),
+            (4, 3),
+            (5, 3),
+            (6, 3),
+            (7, 3),
+            (8, 3),
+        ],
     )?;
-    let mut whole = MemorySink::new(alloc, 4096)?;
-    let mut notes = MemorySink::new(alloc, 4096)?;
-    let mut shelf = shelf_of_files(alloc)?;
-    assert_eq!(rt; run(alloc, &words, &mut shelf, &mut whole, &mut notes), 0);
-    for call in 1..9 {
-        let mut shelf = shelf_of_files(alloc)?;
-        let mut out = MemorySink::new(alloc, 4096)?;
-        out.fail_at(call, 3)?;
-        let status = run(alloc, &words, &mut shelf, &mut out, &mut notes);
-        assert!(rt; status == 8, "put {call}");
-        assert!(rt; whole.bytes().starts_with(out.bytes()), "put {call}");
-        let lines = out.bytes().iter().filter(|byte| **byte == b'\n').count();
-        assert!(rt; lines as u64 + 1 == call, "put {call}");
-    }
-    Ok(())
-}
-
-#[test]
-fn a_long_file_of_peaks_or_rules_is_refused(rt: HostRuntime) -> Result<(), Fail> {
-    let alloc = rt.alloc();
-    let cases = [
-        (
-            "decompose --table ab.csv --peaks long --ppm 1 --alphabet AB",
-            b"isoform: limit: file long\n".as_slice(),
-        ),
-        (
-            "decompose --table ab.csv --mass 10 --ppm 1 --alphabet AB --rules long",
-            b"isoform: limit: file long\n",
-        ),
-    ];
-    for (text, note) in cases {
-        let words = words_of(alloc, text)?;
-        let mut shelf = shelf_of_files(alloc)?;
-        shelf.add(
-            String::from_str(alloc, "long")?,
-            vec![in alloc; b'x'; (1 << 24) + 1]?,
-        )?;
-        let mut out = MemorySink::new(alloc, 4096)?;
-        let mut notes = MemorySink::new(alloc, 4096)?;
-        let status = run(alloc, &words, &mut shelf, &mut out, &mut notes);
-        assert!(rt; status == 6, "{text}");
-        assert!(rt; notes.bytes() == note, "{text}");
-    }
     Ok(())
 }

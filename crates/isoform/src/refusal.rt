@@ -1,7 +1,8 @@
 //! Why a run ends without its report, and the note that it leaves.
 ghost use Rattle.std.specs.Prelude.{◌≡◌, IfOk};
 ghost use Rattle.isoform.specs.Notes.{message_of, note_of, status_of};
-ghost use Rattle.isoform.specs.Refusals.{of_adduct_fault, of_after_fault, of_alphabet_fault, of_formula_fault};
+ghost use Rattle.isoform.specs.Refusals.{of_adduct_fault, of_after_fault, of_alphabet_fault, of_certificate_fault};
+ghost use Rattle.isoform.specs.Refusals.{of_formula_fault};
 ghost use Rattle.isoform.specs.Refusals.{of_peak_fault, of_rules_fault, of_table_fault, of_tracer_fault, of_words_fault};
 ghost use Rattle.isoform.specs.declared.refusal.Refusal.TheVariants.{Input, Memory};
 
@@ -9,6 +10,7 @@ use crate::input_fault::{InputFault, labelled};
 use adducts::AdductFault;
 use alphabet_text::AlphabetFault;
 use command_words::{Word, WordsFault};
+use cover_certificate::CertificateFault;
 use element_table::{TableFault, TracerFault};
 use formula_text::FormulaFault;
 use golden_rules::RulesFault;
@@ -135,6 +137,17 @@ impl From<FormulaFault> for Refusal {
         match fault {
             FormulaFault::Memory(_) => Refusal::Memory,
             fault => Refusal::Input(InputFault::Formula(fault)),
+        }
+    }
+}
+
+impl From<CertificateFault> for Refusal {
+    ghost from_gives = { λ e refusal. refusal ≡ of_certificate_fault e };
+
+    fn from(fault: CertificateFault) -> Refusal {
+        match fault {
+            CertificateFault::Memory(_) => Refusal::Memory,
+            fault => Refusal::Input(InputFault::Certificate(fault)),
         }
     }
 }

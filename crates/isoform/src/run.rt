@@ -1,16 +1,25 @@
 //! The program: from its words and a shelf of files to an output, notes and a status.
-ghost use Rattle.std.specs.Prelude.{◌≡◌, ◌≢◌, ◌<◌, ◌⊎◌, ◌++◌, ℕ, map, take, string_bytes, Some, Result, Ok, Err};
-ghost use Rattle.std.specs.Prelude.{IfErr, IfSome, IsErr, IsOkAnd};
+ghost use Rattle.std.specs.Prelude.{◌≡◌, ◌≢◌, ◌<◌, ◌≤◌, ◌⊎◌, ◌++◌, ℕ, List, map, take, string_bytes, Some, Result, Ok, Err};
+ghost use Rattle.std.specs.Prelude.{IfErr, IfOk, IfSome, IsErr, IsOkAnd};
 ghost use Rattle.outside_ports.specs.Faults.{Rose};
-ghost use Rattle.command_words.specs.Requests.{HasRanges};
+ghost use Rattle.mass_scaling.specs.Limits.{IsTolerance};
+ghost use Rattle.mass_scaling.specs.declared.limits.TheConstants.{MAX_MZ};
+ghost use Rattle.command_words.specs.Requests.{HasRanges, IsWithin};
+ghost use Rattle.command_words.specs.declared.options.TheConstants.{MAX_COVERAGE, MIN_COVERAGE, MIN_MZ};
 ghost use Rattle.command_words.specs.WordReading.{request_of};
-ghost use Rattle.isoform.specs.Answer.{answer, answer_of_request, file_names, names_of_request};
+ghost use Rattle.isoform.specs.Answer.{Certified, Checked, Cover, Formulas, IsReport, answer, answer_of_request};
+ghost use Rattle.isoform.specs.Answer.{certified_query, check_names, check_query, decompose_names, decompose_query};
+ghost use Rattle.isoform.specs.Answer.{envelope_names, envelope_query, file_names, names_of_request};
+ghost use Rattle.isoform.specs.Asked.{asked_as};
+ghost use Rattle.isoform.specs.CertificateClaims.{IsAcceptedLater, IsTrueCheck};
 ghost use Rattle.isoform.specs.Claims.{Holds};
 ghost use Rattle.isoform.specs.Notes.{note_of, status_of};
-ghost use Rattle.isoform.specs.Outside.{EndsAs, IsPut, IsTold, NoWordsFault, ReceivesAll, ReceivesSomeOf, RefusesWords};
-ghost use Rattle.isoform.specs.Outside.{Runs, Shows, TellsLastName, TellsNote, outside, status_of_answer};
+ghost use Rattle.isoform.specs.Outside.{EndsAs, IsPut, IsTold, ReceivesAll, ReceivesSomeOf, RefusesWords};
+ghost use Rattle.isoform.specs.Outside.{Runs, Serves, Shows, TellsLastName, TellsNote, outside, status_of_answer};
 ghost use Rattle.isoform.specs.declared.refusal.Refusal.TheVariants.{Memory, WriteFault};
 
+use crate::certified::CertifiedCover;
+use crate::check::{Check, CheckOptions};
 use crate::decomposition::{DecomposeOptions, Decomposition};
 use crate::envelope::{Envelope, EnvelopeOptions};
 use crate::refusal::{MEMORY_NOTE, Refusal, WRITE_FAULT_NOTE};
@@ -18,7 +27,77 @@ use command_words::{Request, request_of};
 use outside_ports::{Shelf, Sink};
 use std::alloc::{AllocError, Global};
 
-/// Serves a request: reads what it is over, and writes the report or says why there is none.
+/// Serves `decompose`: reads what it is over, and writes its report or says why there is none.
+fn serve_decompose<H: Shelf, O: Sink>(
+    alloc: Global,
+    options: &DecomposeOptions,
+    shelf: &mut H,
+    out: &mut O,
+) -> Result<(), Refusal>
+    requires mass { IsWithin MIN_MZ MAX_MZ options.now.mass }
+    requires tolerance { IsTolerance options.now.tolerance }
+    ensures { Serves (decompose_names options.now) (λ files. asked_as Formulas (decompose_query options.now files))
+        (H.held shelf.old) (H.held shelf.new)
+        (outside (H.asked shelf.old) (H.faults shelf.old) (O.written out.old) (O.faults out.old))
+        (outside (H.asked shelf.new) (H.faults shelf.new) (O.written out.new) (O.faults out.new)) result }
+{
+    let decomposition = Decomposition::read(alloc, options, shelf)?;
+    decomposition.write(alloc, out)
+}
+
+/// Serves `envelope` in the same way.
+fn serve_envelope<H: Shelf, O: Sink>(
+    alloc: Global,
+    options: &EnvelopeOptions,
+    shelf: &mut H,
+    out: &mut O,
+) -> Result<(), Refusal>
+    requires from { MIN_COVERAGE ≤ options.now.coverage }
+    requires to { options.now.coverage ≤ MAX_COVERAGE }
+    ensures { Serves (envelope_names options.now) (λ files. asked_as Cover (envelope_query options.now files))
+        (H.held shelf.old) (H.held shelf.new)
+        (outside (H.asked shelf.old) (H.faults shelf.old) (O.written out.old) (O.faults out.old))
+        (outside (H.asked shelf.new) (H.faults shelf.new) (O.written out.new) (O.faults out.new)) result }
+{
+    let envelope = Envelope::read(alloc, options, shelf)?;
+    envelope.write(alloc, out)
+}
+
+/// Serves `envelope` where the certificate is asked for.
+fn serve_certified<H: Shelf, O: Sink>(
+    alloc: Global,
+    options: &EnvelopeOptions,
+    shelf: &mut H,
+    out: &mut O,
+) -> Result<(), Refusal>
+    requires from { MIN_COVERAGE ≤ options.now.coverage }
+    requires to { options.now.coverage ≤ MAX_COVERAGE }
+    ensures { Serves (envelope_names options.now) (λ files. asked_as Certified (certified_query options.now files))
+        (H.held shelf.old) (H.held shelf.new)
+        (outside (H.asked shelf.old) (H.faults shelf.old) (O.written out.old) (O.faults out.old))
+        (outside (H.asked shelf.new) (H.faults shelf.new) (O.written out.new) (O.faults out.new)) result }
+{
+    let certified = CertifiedCover::read(alloc, options, shelf)?;
+    certified.write(out)
+}
+
+/// Serves `check`.
+fn serve_check<H: Shelf, O: Sink>(
+    alloc: Global,
+    options: &CheckOptions,
+    shelf: &mut H,
+    out: &mut O,
+) -> Result<(), Refusal>
+    ensures { Serves (check_names options.now) (λ files. asked_as Checked (check_query options.now files))
+        (H.held shelf.old) (H.held shelf.new)
+        (outside (H.asked shelf.old) (H.faults shelf.old) (O.written out.old) (O.faults out.old))
+        (outside (H.asked shelf.new) (H.faults shelf.new) (O.written out.new) (O.faults out.new)) result }
+{
+    let check = Check::read(alloc, options, shelf)?;
+    check.write(alloc, out)
+}
+
+/// Serves a request.
 fn serve_request<H: Shelf, O: Sink>(
     alloc: Global,
     request: Request,
@@ -26,14 +105,9 @@ fn serve_request<H: Shelf, O: Sink>(
     out: &mut O,
 ) -> Result<(), Refusal>
     requires { HasRanges request }
-    ensures held { H.held shelf.new ≡ H.held shelf.old }
-    ensures words { NoWordsFault result }
-    ensures shows { Shows (names_of_request request)
+    ensures { Serves (names_of_request request) (answer_of_request request) (H.held shelf.old) (H.held shelf.new)
         (outside (H.asked shelf.old) (H.faults shelf.old) (O.written out.old) (O.faults out.old))
         (outside (H.asked shelf.new) (H.faults shelf.new) (O.written out.new) (O.faults out.new)) result }
-    ensures answers { IfSome (H.held shelf.old) (λ files. EndsAs (answer_of_request request files)
-        (outside (H.asked shelf.old) (H.faults shelf.old) (O.written out.old) (O.faults out.old))
-        (outside (H.asked shelf.new) (H.faults shelf.new) (O.written out.new) (O.faults out.new)) result) }
 {
     match request {
         Request::Decompose {
@@ -58,8 +132,7 @@ fn serve_request<H: Shelf, O: Sink>(
                 limit,
                 after,
             };
-            let decomposition = Decomposition::read(alloc, &options, shelf)?;
-            decomposition.write(alloc, out)
+            serve_decompose(alloc, &options, shelf, out)
         }
         Request::Envelope {
             table,
@@ -67,6 +140,7 @@ fn serve_request<H: Shelf, O: Sink>(
             adduct,
             formula,
             coverage,
+            certificate,
         } => {
             let options = EnvelopeOptions {
                 table,
@@ -75,8 +149,22 @@ fn serve_request<H: Shelf, O: Sink>(
                 formula,
                 coverage,
             };
-            let envelope = Envelope::read(alloc, &options, shelf)?;
-            envelope.write(alloc, out)
+            if certificate {
+                return serve_certified(alloc, &options, shelf, out);
+            }
+            serve_envelope(alloc, &options, shelf, out)
+        }
+        Request::Check {
+            table,
+            tracer,
+            certificate,
+        } => {
+            let options = CheckOptions {
+                table,
+                tracer,
+                certificate,
+            };
+            serve_check(alloc, &options, shelf, out)
         }
     }
 }
@@ -130,11 +218,12 @@ fn tell<M: Sink>(note: &[u8], notes: &mut M)
 
 /// Runs the program on the words behind its name, and answers its exit status.
 ///
-/// Status 0: the report was written. 2: the words are no request, or a value is outside its range. 3: the table or the
-/// tracer has a fault. 4: the peaks have one. 5: the alphabet, the adduct, the rules, the formula after which a list is
-/// to begin or the formula has one, that formula isn't in the box, or the ion isn't defined. 6: a file is longer than
-/// 16,777,216 bytes, a peak has more than 1,048,576 formulas where no number of them is asked for, or the ion has too
-/// many isotopologues. 7: a file could not be read. 8: the report could not be written. 9: want of memory.
+/// Status 0: the report was written. 1: the certificate isn't accepted. 2: the words are no request, or a value is outside
+/// its range. 3: the table or the tracer has a fault. 4: the peaks have one. 5: the alphabet, the adduct, the rules, the
+/// formula after which a list is to begin, the formula or the text of the certificate has one, that formula isn't in the
+/// box, or the ion isn't defined. 6: a file is longer than 16,777,216 bytes, that of a certificate longer than
+/// 268,435,456, a peak has more than 1,048,576 formulas where no number of them is asked for, the ion has too many
+/// isotopologues, or the text of its certificate is longer than the file of one may be. 7: a file could not be read. 8: the report could not be written. 9: want of memory.
 /// With every status but 0 the notes receive one line.
 pub fn run<H: Shelf, O: Sink, M: Sink>(
     alloc: Global,
@@ -161,6 +250,16 @@ pub fn run<H: Shelf, O: Sink, M: Sink>(
         IsOkAnd (answer (map string_bytes words.now.items) files).result (λ outcome.
         ReceivesAll outcome (O.written out.old) (O.written out.new) × Holds outcome)) }
 
+    // What `check` accepted is true, by exact weights, of the table, with the tracer's weights where one is named.
+    ensures true_check { result ≡ 0 → IfSome (H.held shelf.old) (λ files.
+        IfOk (request_of (map string_bytes words.now.items)) (λ request. IsTrueCheck request files)) }
+
+    // The certificate that `envelope` printed is accepted, whatever files hold it beside the same table and tracer.
+    ensures accepted_later { result ≡ 0 → IfSome (H.held shelf.old) (λ files.
+        IfOk (request_of (map string_bytes words.now.items)) (λ request.
+        IsOkAnd (answer (map string_bytes words.now.items) files).result (λ outcome.
+        (bytes : List ℕ) → IsReport outcome bytes → IsAcceptedLater request files bytes))) }
+
     // A status that no device and no want of memory brings about is that of the answer.
     ensures caused { result ≢ 7 → result ≢ 8 → result ≢ 9 → IfSome (H.held shelf.old) (λ files.
         result ≡ status_of_answer (answer (map string_bytes words.now.items) files)) }
@@ -184,10 +283,18 @@ pub fn run<H: Shelf, O: Sink, M: Sink>(
     ensures asked { (asked : ℕ) × (H.asked shelf.new
         ≡ H.asked shelf.old ++ take asked (file_names (map string_bytes words.now.items))) }
 
+    // None of them stands behind the refusal that is answered: they are the names of the answer, or some first ones of
+    // these where a file couldn't be read or memory ran out.
+    ensures asked_up_to { result ≢ 7 → result ≢ 9 → IfSome (H.held shelf.old) (λ files.
+        H.asked shelf.new ≡ H.asked shelf.old ++ (answer (map string_bytes words.now.items) files).names) }
+    ensures asked_within { IfSome (H.held shelf.old) (λ files. (asked : ℕ) × (H.asked shelf.new
+        ≡ H.asked shelf.old ++ take asked (answer (map string_bytes words.now.items) files).names)) }
+
     // With status 8 or 9 some first bytes of the report were received, and none where there is no report; with a
     // status other than 0, 8 and 9 nothing was.
     ensures some_received { (result ≡ 8) ⊎ (result ≡ 9) → IfSome (H.held shelf.old) (λ files.
-        ReceivesSomeOf (answer (map string_bytes words.now.items) files).result (O.written out.old) (O.written out.new)) }
+        ReceivesSomeOf (answer (map string_bytes words.now.items) files).result
+        (O.written out.old) (O.written out.new)) }
     ensures nothing { result ≢ 0 → result ≢ 8 → result ≢ 9 → O.written out.new ≡ O.written out.old }
 
     // The notes receive nothing with status 0, that of the answer's refusal with the status of the answer, the last

@@ -1,23 +1,33 @@
-//! Whole runs over shelves and sinks in memory: the worked examples, and what fails.
-use crate::run;
-use outside_ports::{MemoryShelf, MemorySink};
-use std::alloc::{AllocError, Global};
-use std::process::Abort;
+//! Whole runs of `decompose` at one mass: the worked examples, words, files and devices that fail.
+use crate::finish;
+use crate::rows::{AB, ELEMENTS, Failing, LIGHT, Row, check_cuts, check_rows, refused, report, run_over, unread};
+use outside_ports::{MemorySink, StreamSink};
+use std::io::{self, ErrorKind, Write};
 use std::test::Fail;
 
-pub const ELEMENTS: &[u8] = b"symbol,number,mass,abundance,valence
-e-,0,0.000548579909,0,0
-H,1,1.00782503223,0.999885,1
-H,2,2.01410177812,0.000115,1
-C,12,12,0.9893,4
-C,13,13.00335483507,0.0107,4
-O,16,15.99491461957,0.99757,2
-O,17,16.99913175650,0.00038,2
-O,18,17.99915961286,0.00205,2
-";
-
-const AB: &[u8] =
-    b"symbol,number,mass,abundance,valence\ne-,0,0.000548579909,0,0\nA,10,10,1,1\nB,10,10.00001,1,1\n";
+/// The files of each run, with their names.
+const FILES: [(&str, &[u8]); 8] = [
+    ("elements.csv", ELEMENTS),
+    ("ab.csv", AB),
+    ("light.csv", LIGHT),
+    ("empty.csv", b""),
+    (
+        "odd.csv",
+        b"symbol,number,mass,abundance,valence\ne-,0,0.0005,0,0\n\xff,1,10,1,1\n",
+    ),
+    (
+        "quoted.csv",
+        b"symbol,number,mass,abundance,valence\ne-,0,0.0005,0,0\nA,1,10,1,\"1\n",
+    ),
+    (
+        "zero.csv",
+        b"symbol,number,mass,abundance,valence\ne-,0,0.0005,0,0\nA\0,1,10,1,1\n",
+    ),
+    (
+        "returns.csv",
+        b"symbol,number,mass,abundance,valence\re-,0,0.0005,0,0\rA,1,10,1,1\r",
+    ),
+];
 
 const AB_REPORT: &[u8] = b"decompose 1
 peak 1 10.000000000000
@@ -25,544 +35,312 @@ formula A 10.000000000000 10.000000000000 0
 formula B 10.000010000000 10.000010000000 10000000
 ";
 
-/// What a run is given, and what it must answer.
-#[derive(Clone, Copy)]
-struct Case {
-    mass: &'static str,
-    da: &'static str,
-    alphabet: &'static str,
-    table: &'static [u8],
-    status: u8,
-    out: &'static [u8],
-    note: &'static [u8],
-}
-
-fn decompose_words(
-    alloc: Global,
-    mass: &str,
-    da: &str,
-    alphabet: &str,
-) -> Result<Vec<String>, AllocError> {
-    let mut words = Vec::new(alloc);
-    for word in [
-        "decompose",
-        "--table",
-        "t.csv",
-        "--mass",
-        mass,
-        "--da",
-        da,
-        "--alphabet",
-        alphabet,
-    ] {
-        words.push(String::from_str(alloc, word)?)?;
-    }
-    Ok(words)
-}
-
-pub fn shelf_with(alloc: Global, table: &[u8]) -> Result<MemoryShelf, AllocError> {
-    let mut shelf = MemoryShelf::new(alloc);
-    shelf.add(String::from_str(alloc, "t.csv")?, table.to_vec(alloc)?)?;
-    Ok(shelf)
-}
-
-fn check_case(rt: &impl Abort, alloc: Global, case: &Case) -> Result<(), AllocError> {
-    let words = decompose_words(alloc, case.mass, case.da, case.alphabet)?;
-    let mut shelf = shelf_with(alloc, case.table)?;
-    let mut out = MemorySink::new(alloc, 4096)?;
-    let mut notes = MemorySink::new(alloc, 4096)?;
-    let status = run(alloc, &words, &mut shelf, &mut out, &mut notes);
-    assert!(rt; status == case.status, "{} {}", case.mass, case.alphabet);
-    assert!(rt; out.bytes() == case.out, "{} {}", case.mass, case.alphabet);
-    assert!(rt;
-        notes.bytes() == case.note,
-        "{} {}",
-        case.mass,
-        case.alphabet
-    );
-    Ok(())
-}
-
 #[test]
-fn answers_of_whole_runs(rt: HostRuntime) -> Result<(), Fail> {
-    let cases = [
+fn the_formulas_of_a_mass_are_printed(rt: HostRuntime) -> Result<(), Fail> {
+    let rows = [
         // The formula of glucose, at tolerance 0.
-        Case {
-            mass: "180.06338810418",
-            da: "0",
-            alphabet: "CHO",
-            table: ELEMENTS,
-            status: 0,
-            out: b"decompose 1\npeak 1 180.063388104180\nformula C6H12O6 180.063388104180 180.063388104180 0\n",
-            note: b"",
-        },
+        report(
+            "decompose --table elements.csv --mass 180.06338810418 --da 0 --alphabet CHO",
+            b"decompose 1\npeak 1 180.063388104180\nformula C6H12O6 180.063388104180 180.063388104180 0\n",
+        ),
         // The window reaches below 0, and the empty formula isn't printed.
-        Case {
-            mass: "1",
-            da: "2",
-            alphabet: "CHO",
-            table: ELEMENTS,
-            status: 0,
-            out: b"decompose 1
+        report(
+            "decompose --table elements.csv --mass 1 --da 2 --alphabet CHO",
+            b"decompose 1
 peak 1 1.000000000000
 formula H 1.007825032230 1.007825032230 7825032230
 formula H2 2.015650064460 2.015650064460 1015650064460
 ",
-            note: b"",
-        },
+        ),
         // A formula lies exactly at the tolerance.
-        Case {
-            mass: "10",
-            da: "0.00001",
-            alphabet: "AB",
-            table: AB,
-            status: 0,
-            out: AB_REPORT,
-            note: b"",
-        },
+        report(
+            "decompose --table ab.csv --mass 10 --da 0.00001 --alphabet AB",
+            AB_REPORT,
+        ),
         // A formula below the mass asked.
-        Case {
-            mass: "10.00001",
-            da: "0.00001",
-            alphabet: "A",
-            table: AB,
-            status: 0,
-            out: b"decompose 1\npeak 1 10.000010000000\nformula A 10.000000000000 10.000000000000 -10000000\n",
-            note: b"",
-        },
-        Case {
-            mass: "0",
-            da: "0",
-            alphabet: "AB",
-            table: AB,
-            status: 2,
-            out: b"",
-            note: b"isoform: value: --mass\n",
-        },
-        Case {
-            mass: "0",
-            da: "11",
-            alphabet: "AQ",
-            table: b"",
-            status: 2,
-            out: b"",
-            note: b"isoform: value: --mass\n",
-        },
-        Case {
-            mass: "20000.000000000001",
-            da: "0",
-            alphabet: "A",
-            table: AB,
-            status: 2,
-            out: b"",
-            note: b"isoform: value: --mass\n",
-        },
-        Case {
-            mass: "10.0000000000001",
-            da: "0",
-            alphabet: "A",
-            table: AB,
-            status: 2,
-            out: b"",
-            note: b"isoform: value: --mass\n",
-        },
-        Case {
-            mass: "10",
-            da: "10.1",
-            alphabet: "AQ",
-            table: b"",
-            status: 2,
-            out: b"",
-            note: b"isoform: value: --da\n",
-        },
-        Case {
-            mass: "10",
-            da: "-1",
-            alphabet: "A",
-            table: AB,
-            status: 2,
-            out: b"",
-            note: b"isoform: words\n",
-        },
-        Case {
-            mass: "",
-            da: "0",
-            alphabet: "A",
-            table: AB,
-            status: 2,
-            out: b"",
-            note: b"isoform: words\n",
-        },
-        // A table and an alphabet with faults: the table comes first.
-        Case {
-            mass: "10",
-            da: "0",
-            alphabet: "AQ",
-            table: b"",
-            status: 3,
-            out: b"",
-            note: b"isoform: table: record 1: header\n",
-        },
-        // Tables that are no text, cut inside quotes, or have bytes of 0.
-        Case {
-            mass: "10",
-            da: "0",
-            alphabet: "A",
-            table: b"symbol,number,mass,abundance,valence\ne-,0,0.0005,0,0\n\xff,1,10,1,1\n",
-            status: 3,
-            out: b"",
-            note: b"isoform: table: record 3: symbol\n",
-        },
-        Case {
-            mass: "10",
-            da: "0",
-            alphabet: "A",
-            table: b"symbol,number,mass,abundance,valence\ne-,0,0.0005,0,0\nA,1,10,1,\"1\n",
-            status: 3,
-            out: b"",
-            note: b"isoform: table: record 3: valence\n",
-        },
-        Case {
-            mass: "10",
-            da: "0",
-            alphabet: "A",
-            table: b"symbol,number,mass,abundance,valence\ne-,0,0.0005,0,0\nA\0,1,10,1,1\n",
-            status: 3,
-            out: b"",
-            note: b"isoform: table: record 3: symbol\n",
-        },
+        report(
+            "decompose --table ab.csv --mass 10.00001 --da 0.00001 --alphabet A",
+            b"decompose 1\npeak 1 10.000010000000\nformula A 10.000000000000 10.000000000000 -10000000\n",
+        ),
         // A CR alone ends a record.
-        Case {
-            mass: "10",
-            da: "0",
-            alphabet: "A",
-            table: b"symbol,number,mass,abundance,valence\re-,0,0.0005,0,0\rA,1,10,1,1\r",
-            status: 0,
-            out: b"decompose 1\npeak 1 10.000000000000\nformula A 10.000000000000 10.000000000000 0\n",
-            note: b"",
-        },
-        Case {
-            mass: "10",
-            da: "0",
-            alphabet: "AQ",
-            table: AB,
-            status: 5,
-            out: b"",
-            note: b"isoform: alphabet: unknown symbol at 1\n",
-        },
-        Case {
-            mass: "10",
-            da: "0",
-            alphabet: "AA",
-            table: AB,
-            status: 5,
-            out: b"",
-            note: b"isoform: alphabet: repeated at 1\n",
-        },
-        Case {
-            mass: "10",
-            da: "0",
-            alphabet: "A2",
-            table: AB,
-            status: 5,
-            out: b"",
-            note: b"isoform: alphabet: bad text at 2\n",
-        },
-        Case {
-            mass: "10",
-            da: "0",
-            alphabet: "[11A]",
-            table: AB,
-            status: 5,
-            out: b"",
-            note: b"isoform: alphabet: unknown symbol at 0\n",
-        },
-        Case {
-            mass: "10",
-            da: "0",
-            alphabet: "A5-2",
-            table: AB,
-            status: 5,
-            out: b"",
-            note: b"isoform: alphabet: empty range at 0\n",
-        },
+        report(
+            "decompose --table returns.csv --mass 10 --da 0 --alphabet A",
+            b"decompose 1\npeak 1 10.000000000000\nformula A 10.000000000000 10.000000000000 0\n",
+        ),
         // A labelled isotope of the same mass stands behind its element, and a range leaves out counts below it.
-        Case {
-            mass: "10",
-            da: "0",
-            alphabet: "A[10A]",
-            table: AB,
-            status: 0,
-            out: b"decompose 1
+        report(
+            "decompose --table ab.csv --mass 10 --da 0 --alphabet A[10A]",
+            b"decompose 1
 peak 1 10.000000000000
 formula [10A] 10.000000000000 10.000000000000 0
 formula A 10.000000000000 10.000000000000 0
 ",
-            note: b"",
-        },
-        Case {
-            mass: "20",
-            da: "0.00003",
-            alphabet: "A1-1B0-1",
-            table: AB,
-            status: 0,
-            out: b"decompose 1\npeak 1 20.000000000000\nformula AB 20.000010000000 20.000010000000 10000000\n",
-            note: b"",
-        },
+        ),
+        report(
+            "decompose --table ab.csv --mass 20 --da 0.00003 --alphabet A1-1B0-1",
+            b"decompose 1\npeak 1 20.000000000000\nformula AB 20.000010000000 20.000010000000 10000000\n",
+        ),
     ];
-    for case in &cases {
-        check_case(&rt, rt.alloc(), case)?;
+    check_rows(&rt, rt.alloc(), FILES.as_slice(), &rows)?;
+    Ok(())
+}
+
+#[test]
+fn words_stand_in_any_order_and_no_others_are_taken(rt: HostRuntime) -> Result<(), Fail> {
+    for words in [
+        "decompose --alphabet=AB --da 0.00001 --table=ab.csv --mass=10",
+        "decompose --mass 10 --alphabet AB --table ab.csv --da=0.00001",
+    ] {
+        check_rows(&rt, rt.alloc(), FILES.as_slice(), &[report(words, AB_REPORT)])?;
+    }
+    for words in [
+        "decompose --mass 10 --mass 10 --alphabet AB --table ab.csv --da 0",
+        "decompose --mass 10 --alphabet AB --table ab.csv --da 0 x",
+        "decompose --mass 10 --alphabet AB --table ab.csv --da 0 --",
+        "decompose --mass 10 --alphabet AB --table ab.csv --da 0 --help",
+        "decompose --mass 10 --alphabet AB --table ab.csv --d 0",
+        "decompose --mass 10 --table ab.csv --da 0",
+        "decompose --mass 10 --alphabet AB --table ab.csv --da=-1",
+        "decompose --mass 10 --alphabet A --table ab.csv --da -1",
+        "envelope --mass 10 --alphabet AB --table ab.csv --da 0",
+        // The mass is an empty word.
+        "decompose --table ab.csv --mass  --da 0 --alphabet A",
+    ] {
+        check_rows(&rt, rt.alloc(), FILES.as_slice(), &[refused(words, 2, b"isoform: words\n")])?;
     }
     Ok(())
 }
 
-/// A run on the example of two formulas whose put number `call` takes at most `taken` bytes and
-/// fails: the status, and how many bytes of the report and of the note were received.
-fn run_failing_put(
-    rt: &impl Abort,
-    alloc: Global,
-    call: u64,
-    taken: u64,
-    received: usize,
-) -> Result<(), AllocError> {
-    let words = decompose_words(alloc, "10", "0.00001", "AB")?;
-    let mut shelf = shelf_with(alloc, AB)?;
-    let mut out = MemorySink::new(alloc, 4096)?;
-    out.fail_at(call, taken)?;
-    let mut notes = MemorySink::new(alloc, 4096)?;
-    let status = run(alloc, &words, &mut shelf, &mut out, &mut notes);
-    assert!(rt; status == 8, "put {call}");
-    assert!(rt;
-        received <= AB_REPORT.len() && out.bytes() == &AB_REPORT[..received],
-        "put {call}"
-    );
-    assert!(rt;
-        notes.bytes() == b"isoform: write fault\n".as_slice(),
-        "put {call}"
-    );
+#[test]
+fn values_come_before_the_table_and_this_before_the_alphabet(rt: HostRuntime) -> Result<(), Fail> {
+    let rows = [
+        refused(
+            "decompose --table ab.csv --mass 0 --da 0 --alphabet AB",
+            2,
+            b"isoform: value: --mass\n",
+        ),
+        refused(
+            "decompose --table empty.csv --mass 0 --da 11 --alphabet AQ",
+            2,
+            b"isoform: value: --mass\n",
+        ),
+        refused(
+            "decompose --table ab.csv --mass 20000.000000000001 --da 0 --alphabet A",
+            2,
+            b"isoform: value: --mass\n",
+        ),
+        refused(
+            "decompose --table ab.csv --mass 10.0000000000001 --da 0 --alphabet A",
+            2,
+            b"isoform: value: --mass\n",
+        ),
+        refused(
+            "decompose --table empty.csv --mass 10 --da 10.1 --alphabet AQ",
+            2,
+            b"isoform: value: --da\n",
+        ),
+        refused(
+            "decompose --table empty.csv --mass 10 --da 0 --alphabet AQ",
+            3,
+            b"isoform: table: record 1: header\n",
+        ),
+        // Tables that are no text, cut inside quotes, or have bytes of 0.
+        refused(
+            "decompose --table odd.csv --mass 10 --da 0 --alphabet A",
+            3,
+            b"isoform: table: record 3: symbol\n",
+        ),
+        refused(
+            "decompose --table quoted.csv --mass 10 --da 0 --alphabet A",
+            3,
+            b"isoform: table: record 3: valence\n",
+        ),
+        refused(
+            "decompose --table zero.csv --mass 10 --da 0 --alphabet A",
+            3,
+            b"isoform: table: record 3: symbol\n",
+        ),
+    ];
+    check_rows(&rt, rt.alloc(), FILES.as_slice(), &rows)?;
+    Ok(())
+}
+
+#[test]
+fn an_alphabet_with_a_fault_or_too_many_formulas_is_refused(rt: HostRuntime) -> Result<(), Fail> {
+    let rows = [
+        refused(
+            "decompose --table ab.csv --mass 10 --da 0 --alphabet AQ",
+            5,
+            b"isoform: alphabet: unknown symbol at 1\n",
+        ),
+        refused(
+            "decompose --table ab.csv --mass 10 --da 0 --alphabet AA",
+            5,
+            b"isoform: alphabet: repeated at 1\n",
+        ),
+        refused(
+            "decompose --table ab.csv --mass 10 --da 0 --alphabet A2",
+            5,
+            b"isoform: alphabet: bad text at 2\n",
+        ),
+        refused(
+            "decompose --table ab.csv --mass 10 --da 0 --alphabet [11A]",
+            5,
+            b"isoform: alphabet: unknown symbol at 0\n",
+        ),
+        refused(
+            "decompose --table ab.csv --mass 10 --da 0 --alphabet A5-2",
+            5,
+            b"isoform: alphabet: empty range at 0\n",
+        ),
+        refused(
+            "decompose --table light.csv --mass 100 --da 0 --alphabet ABCD",
+            6,
+            b"isoform: limit: candidates of peak 1\n",
+        ),
+    ];
+    check_rows(&rt, rt.alloc(), FILES.as_slice(), &rows)?;
     Ok(())
 }
 
 #[test]
 fn each_put_may_fail(rt: HostRuntime) -> Result<(), Fail> {
-    // The number of a put, how many bytes it takes, and how many were received by then.
-    let cases = [
-        (1, 0, 0),
-        (1, 1, 1),
-        (1, 11, 11),
-        (2, 0, 12),
-        (2, 1, 13),
-        (2, 4, 16),
-        (2, 22, 34),
-        (3, 0, 35),
-        (3, 1, 36),
-        (3, 43, 78),
-        (4, 0, 79),
-        (4, 1, 80),
-        (4, 50, 129),
-    ];
-    for (call, taken, received) in cases {
-        run_failing_put(&rt, rt.alloc(), call, taken, received)?;
-    }
+    check_cuts(
+        &rt,
+        rt.alloc(),
+        FILES.as_slice(),
+        "decompose --table ab.csv --mass 10 --da 0.00001 --alphabet AB",
+        &[
+            (1, 0),
+            (1, 1),
+            (1, 11),
+            (2, 0),
+            (2, 1),
+            (2, 4),
+            (2, 22),
+            (3, 0),
+            (3, 1),
+            (3, 43),
+            (4, 0),
+            (4, 1),
+            (4, 50),
+        ],
+    )?;
+    // A report of 122 lines.
+    check_cuts(
+        &rt,
+        rt.alloc(),
+        FILES.as_slice(),
+        "decompose --table light.csv --mass 3.5 --da 0 --alphabet ABCD",
+        &[(122, 0), (122, 20), (40, 7), (1, 3)],
+    )?;
     Ok(())
 }
 
 #[test]
 fn a_fetch_may_fail_and_a_note_too(rt: HostRuntime) -> Result<(), Fail> {
-    let alloc = rt.alloc();
-    let words = decompose_words(alloc, "10", "0.00001", "AB")?;
-    // The fetch is made to fail; the file is absent.
-    let mut failing = shelf_with(alloc, AB)?;
-    failing.fail_at(1)?;
-    let empty = MemoryShelf::new(alloc);
-    for mut shelf in vec![in alloc; failing, empty]? {
-        let mut out = MemorySink::new(alloc, 4096)?;
-        let mut notes = MemorySink::new(alloc, 4096)?;
-        let status = run(alloc, &words, &mut shelf, &mut out, &mut notes);
-        assert_eq!(rt; status, 7);
-        assert!(rt; out.bytes().is_empty());
-        assert!(rt; notes.bytes() == b"isoform: read fault: t.csv\n".as_slice());
-    }
-    // A note that can't be told changes no status.
-    let mut shelf = MemoryShelf::new(alloc);
-    let mut out = MemorySink::new(alloc, 0)?;
-    let mut notes = MemorySink::new(alloc, 9)?;
-    let status = run(alloc, &words, &mut shelf, &mut out, &mut notes);
-    assert_eq!(rt; status, 7);
-    assert!(rt; notes.bytes() == b"isoform: ".as_slice());
-    Ok(())
-}
-
-/// The status of a run on a table of so many bytes, and the note.
-fn run_on_long_table(
-    rt: &impl Abort,
-    alloc: Global,
-    len: usize,
-    status: u8,
-    note: &[u8],
-) -> Result<(), AllocError> {
-    let words = decompose_words(alloc, "10", "0", "AB")?;
-    let mut shelf = MemoryShelf::new(alloc);
-    shelf.add(
-        String::from_str(alloc, "t.csv")?,
-        vec![in alloc; b'x'; len]?,
-    )?;
-    let mut out = MemorySink::new(alloc, 4096)?;
-    let mut notes = MemorySink::new(alloc, 4096)?;
-    assert!(rt;
-        run(alloc, &words, &mut shelf, &mut out, &mut notes) == status,
-        "{len}"
-    );
-    assert!(rt; out.bytes().is_empty(), "{len}");
-    assert!(rt; notes.bytes() == note, "{len}");
-    Ok(())
-}
-
-#[test]
-fn limits_are_refused_before_anything_is_written(rt: HostRuntime) -> Result<(), Fail> {
-    let alloc = rt.alloc();
-    run_on_long_table(
-        &rt,
-        alloc,
-        1 << 24,
-        3,
-        b"isoform: table: record 1: header\n",
-    )?;
-    run_on_long_table(
-        &rt,
-        alloc,
-        (1 << 24) + 1,
-        6,
-        b"isoform: limit: file t.csv\n",
-    )?;
-    // 200 atoms of four symbols of one mass: 1,373,701 formulas.
-    let many = Case {
-        mass: "100",
-        da: "0",
-        alphabet: "ABCD",
-        table: b"symbol,number,mass,abundance,valence
-e-,0,0.0005,0,0
-A,1,0.5,1,1
-B,1,0.5,1,1
-C,1,0.5,1,1
-D,1,0.5,1,1
-",
-        status: 6,
-        out: b"",
-        note: b"isoform: limit: candidates of peak 1\n",
-    };
-    check_case(&rt, alloc, &many)?;
-    Ok(())
-}
-
-/// The words of a text, which stand between blanks.
-fn words_of(alloc: Global, text: &str) -> Result<Vec<String>, AllocError> {
-    let mut words = Vec::new(alloc);
-    for word in text.split(' ') {
-        words.push(String::from_str(alloc, word)?)?;
-    }
-    Ok(words)
-}
-
-#[test]
-fn words_stand_in_any_order(rt: HostRuntime) -> Result<(), Fail> {
-    let alloc = rt.alloc();
-    // Words, and whether they are a request.
-    let cases = [
-        (
-            "decompose --alphabet=AB --da 0.00001 --table=t.csv --mass=10",
-            true,
+    let rows = [
+        unread(
+            "decompose --table ab.csv --mass 10 --da 0.00001 --alphabet AB",
+            1,
+            b"isoform: read fault: ab.csv\n",
         ),
-        (
-            "decompose --mass 10 --alphabet AB --table t.csv --da=0.00001",
-            true,
+        refused(
+            "decompose --table absent.csv --mass 10 --da 0.00001 --alphabet AB",
+            7,
+            b"isoform: read fault: absent.csv\n",
         ),
-        (
-            "decompose --mass 10 --mass 10 --alphabet AB --table t.csv --da 0",
-            false,
-        ),
-        (
-            "decompose --mass 10 --alphabet AB --table t.csv --da 0 x",
-            false,
-        ),
-        (
-            "decompose --mass 10 --alphabet AB --table t.csv --da 0 --",
-            false,
-        ),
-        (
-            "decompose --mass 10 --alphabet AB --table t.csv --da 0 --help",
-            false,
-        ),
-        (
-            "decompose --mass 10 --alphabet AB --table t.csv --d 0",
-            false,
-        ),
-        ("decompose --mass 10 --table t.csv --da 0", false),
-        (
-            "decompose --mass 10 --alphabet AB --table t.csv --da=-1",
-            false,
-        ),
-        (
-            "envelope --mass 10 --alphabet AB --table t.csv --da 0",
-            false,
-        ),
+        // A note that can't be told changes no status.
+        Row {
+            words: "decompose --table absent.csv --mass 10 --da 0.00001 --alphabet AB",
+            failing: Failing::Note { taken: 9 },
+            status: 7,
+            out: b"",
+            note: b"isoform: ",
+        },
     ];
-    for (text, is_request) in cases {
-        let words = words_of(alloc, text)?;
-        let mut shelf = shelf_with(alloc, AB)?;
-        let mut out = MemorySink::new(alloc, 4096)?;
-        let mut notes = MemorySink::new(alloc, 4096)?;
-        let status = run(alloc, &words, &mut shelf, &mut out, &mut notes);
-        if is_request {
-            assert!(rt; status == 0 && out.bytes() == AB_REPORT, "{text}");
-        } else {
-            assert!(rt; status == 2 && out.bytes().is_empty(), "{text}");
-            assert!(rt; notes.bytes() == b"isoform: words\n".as_slice(), "{text}");
-        }
-    }
+    check_rows(&rt, rt.alloc(), FILES.as_slice(), &rows)?;
     Ok(())
 }
 
 #[test]
 fn a_name_of_4000_bytes_is_told(rt: HostRuntime) -> Result<(), Fail> {
     let alloc = rt.alloc();
-    let mut words = words_of(alloc, "decompose --mass 10 --alphabet AB --da 0 --table")?;
-    words.push(String::from_utf8(vec![in alloc; b'n'; 4000]?)?)?;
-    let mut shelf = MemoryShelf::new(alloc);
-    let mut out = MemorySink::new(alloc, 4096)?;
-    let mut notes = MemorySink::new(alloc, 8192)?;
-    let status = run(alloc, &words, &mut shelf, &mut out, &mut notes);
-    assert_eq!(rt; status, 7);
-    assert_eq!(rt; notes.bytes().len(), 4022);
+    let name = String::from_utf8(vec![in alloc; b'n'; 4000]?)?;
+    let words = format!(in alloc; "decompose --mass 10 --alphabet AB --da 0 --table {name}")?;
+    let end = run_over(alloc, FILES.as_slice(), &words, Failing::Nothing)?;
+    assert_eq!(rt; end.status, 7);
+    let note = format!(in alloc; "isoform: read fault: {name}\n")?;
+    assert!(rt; end.notes.bytes() == note.as_bytes());
     Ok(())
 }
 
-/// Four symbols of half a Da, of which seven atoms make 120 formulas.
-const LIGHT: &[u8] =
-    b"symbol,number,mass,abundance,valence\ne-,0,0.0005,0,0\nA,1,0.5,1,1\nB,1,0.5,1,1\nC,1,0.5,1,1\nD,1,0.5,1,1\n";
+#[test]
+fn a_file_of_its_limit_is_read_and_a_longer_one_is_refused(rt: HostRuntime) -> Result<(), Fail> {
+    let whole = vec![in rt.alloc(); b'x'; 1 << 24]?;
+    let long = vec![in rt.alloc(); b'x'; (1 << 24) + 1]?;
+    let files = [
+        ("whole.csv", whole.as_slice()),
+        ("long.csv", long.as_slice()),
+        ("ab.csv", AB),
+    ];
+    let rows = [
+        refused(
+            "decompose --table whole.csv --mass 10 --da 0 --alphabet AB",
+            3,
+            b"isoform: table: record 1: header\n",
+        ),
+        refused(
+            "decompose --table long.csv --mass 10 --da 0 --alphabet AB",
+            6,
+            b"isoform: limit: file long.csv\n",
+        ),
+        refused(
+            "decompose --table ab.csv --peaks long.csv --ppm 1 --alphabet AB",
+            6,
+            b"isoform: limit: file long.csv\n",
+        ),
+        refused(
+            "decompose --table ab.csv --mass 10 --ppm 1 --alphabet AB --rules long.csv",
+            6,
+            b"isoform: limit: file long.csv\n",
+        ),
+    ];
+    check_rows(&rt, rt.alloc(), files.as_slice(), &rows)?;
+    Ok(())
+}
+
+/// A writer that takes all and can't write it out.
+#[derive(Drop)]
+struct Unflushed;
+
+impl Write for Unflushed {
+    fn write(&mut self, buf: &[u8]) -> io::Result<usize> {
+        Ok(buf.len())
+    }
+
+    fn flush(&mut self) -> io::Result<()> {
+        Err(ErrorKind::BrokenPipe.into())
+    }
+}
 
 #[test]
-fn a_long_report_is_put_line_by_line_until_a_put_fails(rt: HostRuntime) -> Result<(), Fail> {
-    let alloc = rt.alloc();
-    let words = words_of(
-        alloc,
-        "decompose --table t.csv --mass 3.5 --da 0 --alphabet ABCD",
-    )?;
-    let mut whole = MemorySink::new(alloc, 16_384)?;
-    let mut notes = MemorySink::new(alloc, 4096)?;
-    let mut shelf = shelf_with(alloc, LIGHT)?;
-    assert_eq!(rt; run(alloc, &words, &mut shelf, &mut whole, &mut notes), 0);
-    assert!(rt; whole.bytes().len() > 4096);
-    // The lines before a failing put, its number, and how many bytes it takes.
-    for (before, call, taken) in [(121, 122, 0), (121, 122, 20), (39, 40, 7), (1, 2, 3)] {
-        let mut shelf = shelf_with(alloc, LIGHT)?;
-        let mut out = MemorySink::new(alloc, 16_384)?;
-        out.fail_at(call, taken)?;
-        let status = run(alloc, &words, &mut shelf, &mut out, &mut notes);
-        assert!(rt; status == 8, "put {call}");
-        assert!(rt; whole.bytes().starts_with(out.bytes()), "put {call}");
-        let lines = out.bytes().iter().filter(|byte| **byte == b'\n').count();
-        assert!(rt; lines == before, "put {call}");
+fn a_report_that_cant_be_written_out_is_a_write_fault(rt: HostRuntime) -> Result<(), Fail> {
+    // The status of the run, and what is told then.
+    let cases = [
+        (0, b"isoform: write fault\n".as_slice()),
+        (9, b"isoform: write fault\n"),
+        (8, b""),
+    ];
+    for (status, note) in cases {
+        let mut out = StreamSink::new(Unflushed);
+        let mut notes = MemorySink::new(rt.alloc(), 64)?;
+        assert_eq!(rt; finish(status, &mut out, &mut notes), 8);
+        assert!(rt; notes.bytes() == note, "{status}");
     }
+    let mut out = StreamSink::new(Vec::new(rt.alloc()));
+    let mut notes = MemorySink::new(rt.alloc(), 64)?;
+    assert_eq!(rt; finish(9, &mut out, &mut notes), 9);
+    assert!(rt; notes.bytes().is_empty());
     Ok(())
 }

@@ -99,3 +99,8 @@ cover_members cover = take cover.size cover.layer
 -- the report of a cover, with the shift added to each mass
 abbrev pub envelope_text : ℤ → CoverEntries → List ℕ
 envelope_text shift cover = envelope_head cover ++ flat_map (isotopologue_line shift) (cover_members cover)
+
+-- the line of an accepted certificate: its size and its bound
+abbrev pub accepted_line : ℕ → ℕ → List ℕ
+accepted_line size bound =
+    line (codes "accepted" ∷ codes "size" ∷ decimal size ∷ codes "bound" ∷ decimal bound ∷ [])

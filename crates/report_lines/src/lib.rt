@@ -10,11 +10,13 @@
 //! puts the lines one by one.
 #![tactic(auto)]
 
+mod check;
 mod decompose;
 mod envelope;
 mod line;
 mod word;
 
+pub use check::push_accepted_line;
 pub use decompose::{
     decompose_head, decompose_line, formula_line, peak_line, push_decompose_head,
     push_decompose_line, push_formula_line, push_items_line, push_peak_line,

@@ -4,8 +4,7 @@ use Rattle.std.proofs.lemmas.List.{length-map}
 use Rattle.written_items.specs.declared.item.Item.{Item}
 use Rattle.alphabet_text.specs.declared.entries.AlphabetEntry.{AlphabetEntry}
 use Rattle.decompose.specs.Masses.{mass_of}
-use Rattle.candidates.specs.PeakFormulas.{items_of}
-use Rattle.candidates.specs.Searches.{masses_of}
+use Rattle.candidates.specs.PeakFormulas.{items_of, masses_of}
 use Rattle.candidates.proofs.AlphabetMasses.{apart-items, box-length}
 use Rattle.candidates.proofs.LineTexts.{written-formula, written-mass, written-light}
 use Rattle.candidates.proofs.line.push_line.Goals as goal

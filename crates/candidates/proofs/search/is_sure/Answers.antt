@@ -6,8 +6,8 @@ use Rattle.alphabet_text.specs.declared.entries.AlphabetEntry.{AlphabetEntry}
 use Rattle.adducts.specs.Adducts.{AdductValue}
 use Rattle.formula_text.specs.Formulas.{atoms_of}
 use Rattle.decompose.specs.Masses as lists
-use Rattle.candidates.specs.Searches.{masses_of}
 use Rattle.candidates.proofs.SureLists.{sure-formed, none-of}
+use Rattle.candidates.specs.PeakFormulas.{masses_of}
 use Rattle.candidates.proofs.search.is_sure.Goals as goal
 
 pub returns : goal.returns

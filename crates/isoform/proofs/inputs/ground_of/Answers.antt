@@ -29,8 +29,8 @@ abbrev behind_alphabet : TableEntries → Tolerance → List ℕ → List ℕ �
 behind_alphabet table tolerance text word alphabet files =
     asks_none (adduct_step table text) and_then λ adduct. behind_adduct table tolerance word alphabet adduct files
 
-pub returns-in_err-adduct : goal.returns-in_err-adduct
-returns-in_err-adduct g c =
+pub returns-in_err-adduct-clause-part : goal.returns-in_err-adduct-clause-part
+returns-in_err-adduct-clause-part g c =
     let a = c.args in
     let given = err_from_is_err_and c.from_residual-in_err-adduct.result c.from_residual-in_err-adduct.ensures.1 in
     rw (given.1, given.2) (given_next (λ p. p) _ (alphabet_step a.table a.alphabet.now)
@@ -39,8 +39,8 @@ returns-in_err-adduct g c =
     (given_stop (λ x. x) (λ p. p) _ (adduct_step a.table a.adduct.now)
     (behind_adduct a.table a.tolerance a.rules.now c.in_ok-alphabet.alphabet) _ _ c.in_err-adduct.ensures.adduct))
 
-pub returns-in_err-rules : goal.returns-in_err-rules
-returns-in_err-rules g c =
+pub returns-in_err-rules-clause-part : goal.returns-in_err-rules-clause-part
+returns-in_err-rules-clause-part g c =
     let a = c.args in
     let given = err_from_is_err_and c.from_residual-in_err-rules.result c.from_residual-in_err-rules.ensures.1 in
     rw (given.1, given.2) (given_next (λ p. p) _ (alphabet_step a.table a.alphabet.now)
@@ -52,8 +52,8 @@ returns-in_err-rules g c =
     (part_end_stop (λ r. r) (λ p. p) _ (rules_step a.table a.rules.now)
     (made a.table a.tolerance c.in_ok-alphabet.alphabet c.in_ok-adduct.adduct) _ _ _ c.in_err-rules.ensures)))
 
-pub returns-in_err-of : goal.returns-in_err-of
-returns-in_err-of g c =
+pub returns-in_err-of-clause-part : goal.returns-in_err-of-clause-part
+returns-in_err-of-clause-part g c =
     let a = c.args in
     let given = err_from_is_err_and c.from_residual-in_err-of.result c.from_residual-in_err-of.ensures.1 in
     rw (given.1, given.2) (given_next (λ p. p) _ (alphabet_step a.table a.alphabet.now)
@@ -66,8 +66,8 @@ returns-in_err-of g c =
     (made a.table a.tolerance c.in_ok-alphabet.alphabet c.in_ok-adduct.adduct) _ _ c.in_ok-rules.rules
     (Err Memory) c.in_ok-rules.ensures tt)))
 
-pub returns : goal.returns
-returns g c =
+pub returns-clause-part : goal.returns-clause-part
+returns-clause-part g c =
     let a = c.args in
     given_next (λ p. p) _ (alphabet_step a.table a.alphabet.now)
     (behind_alphabet a.table a.tolerance a.adduct.now a.rules.now) _ _ c.in_ok-alphabet.alphabet _
@@ -77,4 +77,4 @@ returns g c =
     c.in_ok-adduct.ensures.adduct
     (part_end (λ r. r) (λ p. p) _ (rules_step a.table a.rules.now)
     (made a.table a.tolerance c.in_ok-alphabet.alphabet c.in_ok-adduct.adduct) _ _ c.in_ok-rules.rules
-    _ c.in_ok-rules.ensures (ap Ok (sym c.in_ok-of.ensures))))
+    _ c.in_ok-rules.ensures (ap Ok (sym c.in_ok-of.ensures.made))))

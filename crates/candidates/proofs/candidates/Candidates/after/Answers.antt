@@ -21,6 +21,7 @@ invariant_of-result c =
           c.alphabet-alphabet.ensures.premises c.requires.some_mz c.requires.few_mz c.in-Ok.ensures.resumed
           c.tables.ensures.tables (c.limits-limits.ensures.limits ∙ ap limits_of same)
           c.peak_window-window.ensures.covers c.peak_window-window.ensures.admits
+          c.peak_window-window.ensures.searched
           (count-entries premises.alphabet c.alphabet-alphabet.result.now c.items.result.now c.in_ok-counts.counts same
           c.items.ensures.items c.in_ok-counts.ensures)
           (c.in_ok-room.ensures ∙ ap length same) c.is_sure.ensures c.requires.token,

@@ -1,13 +1,14 @@
 use Rattle.std.proofs.Common.{◌≡◌, map, Err, sym, ap, subst, ◌∙◌}
-use Rattle.std.specs.Prelude.{Result, is_some}
+use Rattle.std.specs.Prelude.{Result, Some, is_some, option_map}
 use Rattle.std.proofs.lemmas.Result.{err_from_is_err_and}
 use Rattle.decompose.specs.CountLists.{IsInBox}
 use Rattle.decompose.specs.declared.faults.ResumeFault.{ResumeFault}
 use Rattle.decompose.specs.declared.faults.ResumeFault.TheVariants.{NotInBox, Memory}
-use Rattle.candidates.specs.PeakFormulas.{limits_of, items_of, counts_in, counts_of}
+use Rattle.candidates.specs.PeakFormulas.{limits_of, items_of, counts_in, counts_of, formula_at}
 use Rattle.formula_text.specs.Formulas.{formula_of, count_in}
+use Rattle.candidates.specs.Enumeration.{CandidateEnumeration}
 use Rattle.candidates.specs.Tokens.{IsInAlphabetBox}
-use Rattle.candidates.proofs.TokenCounts.{token-formula}
+use Rattle.candidates.proofs.TokenCounts.{token-formula, token-same}
 use Rattle.candidates.proofs.candidates.Candidates.resume.Goals as goal
 
 not_both : {A : Type 0} (r : Result A ResumeFault) → r ≡ Err Memory → r ≡ Err NotInBox → ⊥
@@ -45,3 +46,17 @@ after-requires-clause-token c =
           ∙ ap is_some (token-formula premises.alphabet formula c.alphabet-alphabet.ensures.premises.is_alphabet
           c.is_in_box.ensures.formula here.items);
     }
+
+pub returns-clause-token : goal.returns-clause-token
+returns-clause-token c =
+    let premises = c.args.premises.now in
+    let formula = c.args.after.now in
+    let same = c.alphabet-alphabet.ensures.alphabet in
+    let last : c.in_ok-last.last ≡ counts_in premises.alphabet formula =
+    c.in_ok-last.ensures ∙ ap (map (count_in formula)) (c.items.ensures.items ∙ ap items_of same) in
+    let within = c.is_in_box.ensures.in_box.0 c.if-not-is_in_box.false in
+    let here : IsInAlphabetBox premises.alphabet formula = subst (λ a. IsInAlphabetBox a formula) same within in
+    ap (λ (e : CandidateEnumeration). option_map (formula_at premises.alphabet) e.given) c.in_ok-after.ensures
+    ∙ ap (λ cs. Some (formula_at premises.alphabet cs)) last
+    ∙ ap Some (token-same premises.alphabet formula c.alphabet-alphabet.ensures.premises.is_alphabet
+    c.is_in_box.ensures.formula here.items)

@@ -58,7 +58,7 @@ returns-in_err-premises g c =
     (peaks_step o.mass o.peaks) (behind_peaks o table) _ _ _ mzs _ c.in_ok-mzs.ensures.part
     (part_end_stop (λ p. p) (λ d. d) (rules_names o.rules)
     (ground_step table o.tolerance o.alphabet o.adduct o.rules) (behind_premises o mzs.items) _ _ _
-    c.in_err-premises.ensures)))
+    c.in_err-premises.ensures.part)))
 
 pub returns : goal.returns
 returns g c =
@@ -72,4 +72,4 @@ returns g c =
     (peaks_step o.mass o.peaks) (behind_peaks o table) _ _ _ mzs _ c.in_ok-mzs.ensures.part
     (part_end (λ p. p) (λ d. d) (rules_names o.rules)
     (ground_step table o.tolerance o.alphabet o.adduct o.rules) (behind_premises o mzs.items) _ _
-    c.in_ok-premises.premises c.of_page.result c.in_ok-premises.ensures c.of_page.ensures))
+    c.in_ok-premises.premises c.of_page.result c.in_ok-premises.ensures.part c.of_page.ensures))

@@ -2,6 +2,7 @@ use Rattle.std.proofs.Common.{◌≡◌, ℕ, List, ◌++◌, length, refl, ap, 
 use Rattle.std.specs.Prelude.{Err}
 use Rattle.std.specs.List.{flat_map}
 use Rattle.std.proofs.lemmas.Result.{err_from_is_err_and}
+use Rattle.candidates.specs.Grounds.{IsGround}
 use Rattle.report_lines.specs.ReportLines.{decompose_head}
 use Rattle.isoform.specs.Outside.{Puts}
 use Rattle.isoform.specs.PageFormulas.{numbered}
@@ -19,7 +20,7 @@ whole query = refl
 
 pub returns-in_err-push_decompose_head-clause-holds : goal.returns-in_err-push_decompose_head-clause-holds
 returns-in_err-push_decompose_head-clause-holds g c =
-    prints_all c.args.self.now
+    prints_all c.args.self.now (subst (λ (q : FormulaQuery). IsGround q.premises) c.self.view_is c.self.invariant.2)
 
 pub returns-in_err-put_text-clause-puts : goal.returns-in_err-put_text-clause-puts
 returns-in_err-put_text-clause-puts g c =
@@ -39,7 +40,7 @@ returns-in_err-put_text-clause-puts g c =
 
 pub returns-in_err-put_text-clause-holds : goal.returns-in_err-put_text-clause-holds
 returns-in_err-put_text-clause-holds g c =
-    prints_all c.args.self.now
+    prints_all c.args.self.now (subst (λ (q : FormulaQuery). IsGround q.premises) c.self.view_is c.self.invariant.2)
 
 pub returns-clause-puts : goal.returns-clause-puts
 returns-clause-puts g c =
@@ -57,4 +58,4 @@ returns-clause-puts g c =
 
 pub returns-clause-holds : goal.returns-clause-holds
 returns-clause-holds g c =
-    prints_all c.args.self.now
+    prints_all c.args.self.now (subst (λ (q : FormulaQuery). IsGround q.premises) c.self.view_is c.self.invariant.2)

@@ -1,6 +1,7 @@
 use Rattle.std.proofs.Common.{SFits}
 use Rattle.std.specs.Int.{w128}
 use Rattle.std.proofs.lemmas.Int.{to_z-of_z}
+use Rattle.isoform.proofs.CertifiedCovers.{passes}
 use Rattle.isoform.proofs.CoverQueries.{holds_of_given, is_cover_of, query_of_fault, query_of_given}
 use Rattle.isoform.proofs.PrintedMasses.{all_printed}
 use Rattle.isoform.proofs.envelope.Envelope.of_ion.Goals as goal
@@ -18,6 +19,8 @@ invariant_of-result c =
       all_printed a.table a.ion a.coverage a.shift given c.requires.table c.requires.formula c.requires.shift covered
           c.in-Ok.ensures.isotopologues,
       c.requires.shift,
+      passes a.table a.ion c.requires.table c.requires.formula c.requires.known a.coverage c.requires.from c.requires.to
+          given c.in-Ok.ensures.cover covered,
     )
 
 pub returns-in-Ok : goal.returns-in-Ok

@@ -1,0 +1,20 @@
+use Rattle.std.proofs.Common.{refl}
+use Rattle.std.proofs.lemmas.Result.{err_from_is_err_and}
+use Rattle.isoform.specs.Answer.{Formulas, decompose_names, decompose_query}
+use Rattle.isoform.specs.Reports.{formulas_report}
+use Rattle.isoform.proofs.Endings.{unread_serves, written_serves}
+use Rattle.isoform.proofs.run.serve_decompose.Goals as goal
+
+pub returns-in_err-decomposition : goal.returns-in_err-decomposition
+returns-in_err-decomposition g c =
+    let o = c.args.options.now in
+    let given = err_from_is_err_and c.from_residual.result c.from_residual.ensures.1 in
+    rw (given.1, given.2)
+    (unread_serves Formulas (λ x. x) (decompose_names o) (decompose_query o) _ _ _ _ _ c.in_err-decomposition.ensures)
+
+pub returns : goal.returns
+returns g c =
+    let o = c.args.options.now in
+    let query = c.in_ok-decomposition.decomposition in
+    written_serves Formulas (λ x. x) (decompose_names o) (decompose_query o) _ _ query (formulas_report query) _ _ _ _ _ c.in_ok-decomposition.ensures
+    c.write.ensures.holds refl c.write.ensures.puts

@@ -1,0 +1,3 @@
+pub mod ShareLaws
+pub mod StopLaws
+pub mod RoundLaws
