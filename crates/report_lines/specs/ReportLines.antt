@@ -92,6 +92,10 @@ isotopologue_line shift member =
     line (codes "isotopologue" ∷ member.text ∷ ion_mass_text (shifted_mass shift member)
     ∷ decimal member.lo ∷ decimal member.hi ∷ [])
 
+-- a member as its line names it, by its text, its mass and the bounds of its probability
+abbrev pub member_of_words : List ℕ → ℕ → ℕ → ℕ → MemberEntry
+member_of_words text mass lo hi = record { counts = []; text = text; mass = mass; lo = lo; hi = hi }
+
 -- the members of a cover: the first ones of its layer, as many as its size
 abbrev pub cover_members : CoverEntries → List MemberEntry
 cover_members cover = take cover.size cover.layer

@@ -1,8 +1,7 @@
 //! The lines of the report of a cover.
-ghost use Rattle.std.specs.Prelude.{◌≡◌, ◌<◌, ◌++◌, length, take, slice_index_or, All, IfOk, OnOk, OnErr};
-ghost use Rattle.cover_certificate.specs.FormulaCovers.{MemberEntry};
+ghost use Rattle.std.specs.Prelude.{◌≡◌, ◌++◌, length, take, All, IfOk, OnOk, OnErr};
 ghost use Rattle.std.specs.List.{flat_map};
-ghost use Rattle.report_lines.specs.ReportLines.{IsPrintedWith, cover_members};
+ghost use Rattle.report_lines.specs.ReportLines.{IsPrintedWith, cover_members, member_of_words};
 ghost use Rattle.report_lines.specs.ReportLines.{envelope_head, head_lines, isotopologue_line, envelope_text};
 
 use crate::line::{cut_unless_pushed, push_line};
@@ -102,48 +101,41 @@ pub fn push_isotopologue_line(
     ensures line { OnOk result (report.new.items ≡ report.old.items ++ isotopologue_line shift member.now) }
     ensures refused { OnErr result (report.new.items ≡ report.old.items) }
 {
-    let mass = i128::from(member.mass()) + shift;
     let enclosure = member.enclosure();
-    push_line(
+    push_isotopologue_words(
         report,
-        &[
-            Word::Text(b"isotopologue"),
-            Word::Text(member.text()),
-            ion_mass_word(mass),
-            Word::Number(enclosure.lo),
-            Word::Number(enclosure.hi),
-        ],
+        member.text(),
+        member.mass(),
+        enclosure.lo,
+        enclosure.hi,
+        shift,
     )
 }
 
-/// Appends the line of the member at a place of a cover whose members get their texts one at a time, as
-/// [`isotopologue_line`] gives it. The text is made in `text`, which is used again. Without room for it the report
-/// stays as it was.
-pub fn push_numbered_line(
+/// Appends the line of an isotopologue of this text and mass, and with these bounds of its probability, as
+/// [`isotopologue_line`] gives it. Without room for it the report stays as it was.
+pub fn push_isotopologue_words(
     report: &mut Vec<u8>,
-    text: &mut Vec<u8>,
-    cover: &NumberedCover,
-    place: usize,
+    text: &[u8],
+    mass: u64,
+    lo: u64,
+    hi: u64,
     shift: i128,
 ) -> Result<(), AllocError>
-    requires within { place < length cover.now.layer }
-    requires printed { (d : MemberEntry) → IsPrintedWith shift (slice_index_or cover.now.layer place d) }
-    ensures line { OnOk result ((d : MemberEntry) → report.new.items
-        ≡ report.old.items ++ isotopologue_line shift (slice_index_or cover.now.layer place d)) }
+    requires { IsPrintedWith shift (member_of_words text.now mass lo hi) }
+    ensures line { OnOk result (
+        report.new.items ≡ report.old.items ++ isotopologue_line shift (member_of_words text.now mass lo hi)) }
     ensures refused { OnErr result (report.new.items ≡ report.old.items) }
 {
-    text.clear();
-    cover.push_text(place, text)?;
-    let mass = i128::from(cover.mass(place)) + shift;
-    let enclosure = cover.enclosure(place);
+    let mass = i128::from(mass) + shift;
     push_line(
         report,
         &[
             Word::Text(b"isotopologue"),
-            Word::Text(text.as_slice()),
+            Word::Text(text),
             ion_mass_word(mass),
-            Word::Number(enclosure.lo),
-            Word::Number(enclosure.hi),
+            Word::Number(lo),
+            Word::Number(hi),
         ],
     )
 }

@@ -23,7 +23,7 @@ pub use decompose::{
 };
 pub use envelope::{
     envelope_head, envelope_text, isotopologue_line, numbered_head, push_envelope_head,
-    push_envelope_text, push_isotopologue_line, push_numbered_line,
+    push_envelope_text, push_isotopologue_line, push_isotopologue_words,
 };
 
 #[cfg(test)]
