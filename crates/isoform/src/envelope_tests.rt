@@ -139,7 +139,9 @@ isotopologue [30V][32V] 62.000000000000 375000000000000000 375000000000000000
 }
 
 #[test]
-fn a_cover_is_of_the_whole_formula_with_the_weights_of_its_table(rt: HostRuntime) -> Result<(), Fail> {
+fn a_cover_is_of_the_whole_formula_with_the_weights_of_its_table(
+    rt: HostRuntime,
+) -> Result<(), Fail> {
     let rows = [
         // Two elements.
         report(
@@ -305,7 +307,9 @@ fn a_formula_with_a_fault_is_refused(rt: HostRuntime) -> Result<(), Fail> {
 }
 
 #[test]
-fn a_table_with_a_fault_comes_before_the_formula_and_layers_last(rt: HostRuntime) -> Result<(), Fail> {
+fn a_table_with_a_fault_comes_before_the_formula_and_layers_last(
+    rt: HostRuntime,
+) -> Result<(), Fail> {
     let rows = [
         refused(
             "envelope --table empty.csv --formula H0 --coverage 0.5",

@@ -48,14 +48,9 @@ pub enum Failing {
     /// The fetch of this number.
     Fetch(u64),
     /// The put of this number to the output, once it took so many bytes.
-    Put {
-        call: u64,
-        taken: u64,
-    },
+    Put { call: u64, taken: u64 },
     /// The note, of which so many bytes are taken.
-    Note {
-        taken: u64,
-    },
+    Note { taken: u64 },
 }
 
 /// The words of a run, which stand between blanks, what fails in it, and what it must answer.
@@ -182,7 +177,10 @@ pub fn check_cuts(
         };
         let cut = run_over(alloc, files, words, put)?;
         assert!(rt; cut.status == 8, "put {call}");
-        assert!(rt; cut.notes.bytes() == b"isoform: write fault\n".as_slice(), "put {call}");
+        assert!(rt;
+            cut.notes.bytes() == b"isoform: write fault\n".as_slice(),
+            "put {call}"
+        );
         let received = cut.out.bytes();
         assert!(rt; whole.out.bytes().starts_with(received), "put {call}");
         assert!(rt; end_of(received) == (*call, *taken), "put {call}");

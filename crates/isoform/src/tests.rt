@@ -1,6 +1,8 @@
 //! Whole runs of `decompose` at one mass: the worked examples, words, files and devices that fail.
 use crate::finish;
-use crate::rows::{AB, ELEMENTS, Failing, LIGHT, Row, check_cuts, check_rows, refused, report, run_over, unread};
+use crate::rows::{
+    AB, ELEMENTS, Failing, LIGHT, Row, check_cuts, check_rows, refused, report, run_over, unread,
+};
 use outside_ports::{MemorySink, StreamSink};
 use std::io::{self, ErrorKind, Write};
 use std::test::Fail;
@@ -91,7 +93,12 @@ fn words_stand_in_any_order_and_no_others_are_taken(rt: HostRuntime) -> Result<(
         "decompose --alphabet=AB --da 0.00001 --table=ab.csv --mass=10",
         "decompose --mass 10 --alphabet AB --table ab.csv --da=0.00001",
     ] {
-        check_rows(&rt, rt.alloc(), FILES.as_slice(), &[report(words, AB_REPORT)])?;
+        check_rows(
+            &rt,
+            rt.alloc(),
+            FILES.as_slice(),
+            &[report(words, AB_REPORT)],
+        )?;
     }
     for words in [
         "decompose --mass 10 --mass 10 --alphabet AB --table ab.csv --da 0",
@@ -106,7 +113,12 @@ fn words_stand_in_any_order_and_no_others_are_taken(rt: HostRuntime) -> Result<(
         // The mass is an empty word.
         "decompose --table ab.csv --mass  --da 0 --alphabet A",
     ] {
-        check_rows(&rt, rt.alloc(), FILES.as_slice(), &[refused(words, 2, b"isoform: words\n")])?;
+        check_rows(
+            &rt,
+            rt.alloc(),
+            FILES.as_slice(),
+            &[refused(words, 2, b"isoform: words\n")],
+        )?;
     }
     Ok(())
 }

@@ -1,4 +1,4 @@
-use Rattle.std.proofs.Common.{◌≡◌, ℕ, Bool, true, false, cond, List, ap}
+use Rattle.std.proofs.Common.{Vec, Global, ◌≡◌, ℕ, Bool, true, false, cond, List, ap}
 use Rattle.std.specs.Prelude.{Result, Ok, Err, nat_lt, length}
 use Rattle.std.proofs.lemmas.Result.{err_from_is_err_and}
 use Rattle.reader_answers.specs.Answers.{◌>>=◌}
@@ -25,7 +25,7 @@ given_text false text given is =
 pub returns-in_err-text : goal.returns-in_err-text
 returns-in_err-text c =
     let given = err_from_is_err_and c.from_residual.result c.from_residual.ensures.1 in
-    rw (given.1, given.2) (gives_stop (λ v. v.items) (λ e. e) (certificate_text c.args.envelope)
+    rw (given.1, given.2) (gives_stop (λ (v : Vec ℕ Global). v.items) (λ e. e) (certificate_text c.args.envelope)
     (λ text. Ok c.args.envelope) _ c.in_err-text.ensures.text)
 
 pub invariant_of-result : goal.invariant_of-result

@@ -35,7 +35,7 @@ pub returns-in-Accepted : goal.returns-in-Accepted
 returns-in-Accepted c =
     accepted_step c.args.table c.args.certificate c.in_ok-judgement.judgement c.in_ok-judgement.ensures.judgement c.in-Accepted.is
 
-pub returns : goal.returns
-returns c =
+pub returns-in_default : goal.returns-in_default
+returns-in_default c =
     rejected_step c.args.table c.args.certificate c.in_ok-judgement.judgement c.in_ok-judgement.ensures.judgement
     c.in_default.not-Accepted

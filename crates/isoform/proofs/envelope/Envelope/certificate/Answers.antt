@@ -18,4 +18,4 @@ pub returns-in-Err-TooLong-clause-text : goal.returns-in-Err-TooLong-clause-text
 returns-in-Err-TooLong-clause-text c =
     let covered : c.self.inside.cover ≡ asked_cover c.args.self.now = c.self.invariant.0 ∙ ap asked_cover c.self.view_is in
     ap (λ (r : Result (List ℕ) CertificateWrite). or_fault_as (λ fault. CertificateLimit) r)
-    (ap cover_certificate (sym covered) ∙ c.in-Err-TooLong.ensures.text)
+    (ap cover_certificate (sym covered) ∙ (rw c.in-Err-TooLong.field-0-is at c.in-Err-TooLong.ensures.text))
