@@ -195,6 +195,24 @@ expect 1 "isoform: certificate: open boundary: line 7: [13C][16O]2: 106480611824
 expect 1 "isoform: certificate: too many members: 1048577" "one isotopologue more than may be" check many.txt
 expect 5 "isoform: certificate text: bad line 1" "a table as a certificate" check elements.csv
 expect 7 "isoform: read fault: folder" "a folder as a certificate" check folder
+head -n 8 co2.txt >cut.txt
+expect 5 "isoform: certificate text: end missing" "a certificate without its end" check cut.txt
+: >none.txt
+expect 5 "isoform: certificate text: end missing" "a certificate that is empty" check none.txt
+{ printf '\xef\xbb\xbf' && cat co2.txt; } >mark.txt
+expect 5 "isoform: certificate text: bad line 1" "a certificate with a byte order mark" check mark.txt
+sed '7s/.*/cover /' co2.txt >blank.txt
+expect 1 "isoform: certificate: not of formula: line 7" "a line without an isotopologue" check blank.txt
+sed 's/^bound 2/bound 3/' co2.txt >bold.txt
+expect 1 "isoform: certificate: bound too high: 995145904900000000" "a bound that is too high" check bold.txt
+{ head -n 7 co2.txt && head -n 7 co2.txt | tail -n 1 && tail -n 2 co2.txt; } >twice.txt
+expect 1 "isoform: certificate: out of order: line 8" "a member that stands twice" check twice.txt
+{ cat co2.txt && yes '' | head -c $((268435456 - $(stat -c %s co2.txt))); } >full.txt
+expect 0 "" "a certificate of exactly its limit that is accepted" check full.txt
+echo >>full.txt
+expect 6 "isoform: limit: file full.txt" "a certificate of one byte more" check full.txt
+rm -f full.txt many.txt
+expect 7 "isoform: read fault: absent.txt" "a certificate that is not there" check absent.txt
 truncate -s 268435456 whole.txt
 expect 5 "isoform: certificate text: bad line 1" "a certificate of exactly its limit" check whole.txt
 truncate -s 268435457 long.txt
@@ -316,38 +334,6 @@ expect 2 "isoform: value: --mass" "an m/z of 100,000 digits" \
     "$root/isoform" decompose --table ab.csv --mass "$nines" --da 0 --alphabet AB
 expect 5 "isoform: alphabet: bad text at 3" "a range of 100,000 digits" symbols "A0-$nines"
 expect 7 "isoform: read fault: $nines" "a file name of 100,000 bytes" of "$nines"
-
-# Certificates, where the program reads them: cut off, at their limits, and with words of their own.
-"$root/isoform" check --table elements.csv --certificate co2.txt >out 2>note
-if [ $? = 0 ]; then
-    check() { timeout 120 "$root/isoform" check --table elements.csv --certificate "$1" >out; }
-    expect 0 "" "a certificate" check co2.txt
-    if [ "$(cat out)" != "accepted size 2 bound 2" ]; then
-        failed=$((failed + 1))
-        echo "a certificate: $(cat out)"
-    fi
-    head -n 8 co2.txt >cut.txt
-    expect 5 "isoform: certificate text: end missing" "a certificate without its end" check cut.txt
-    expect 5 "isoform: certificate text: end missing" "a certificate that is empty" check empty.csv
-    expect 5 "isoform: certificate text: bad line 1" "another file as a certificate" check elements.csv
-    sed 's/^bound 2/bound 3/' co2.txt >bold.txt
-    "$root/isoform" check --table elements.csv --certificate bold.txt >out 2>note
-    if [ $? != 1 ] || [ -s out ] || ! grep -q '^isoform: certificate: bound too high: ' note; then
-        failed=$((failed + 1))
-        echo "a bound that is too high: $(cat note)"
-    fi
-    { head -n 7 co2.txt && head -n 7 co2.txt | tail -n 1 && tail -n 2 co2.txt; } >twice.txt
-    expect 1 "isoform: certificate: out of order: line 8" "a member that stands twice" check twice.txt
-    { head -n 6 co2.txt && yes 'cover [12C][16O]2' | head -n 1048577 && echo end; } >many.txt
-    expect 1 "isoform: certificate: too many members: 1048577" "1,048,577 members" check many.txt
-    # 268,435,456 bytes are the limit.
-    { cat co2.txt && yes '' | head -c $((268435456 - $(stat -c %s co2.txt))); } >full.txt
-    expect 0 "" "a certificate of exactly its limit" check full.txt
-    echo >>full.txt
-    expect 6 "isoform: limit: file full.txt" "a certificate of one byte more" check full.txt
-    rm -f full.txt many.txt
-    expect 7 "isoform: read fault: absent.txt" "a certificate that is not there" check absent.txt
-fi
 
 # An alphabet whose tables find no memory.
 in_little_memory() {
