@@ -122,3 +122,19 @@ end
     );
     Ok(())
 }
+
+// One isotopologue, listed once too often for any certificate; that it is repeated is found later.
+#[test]
+fn a_line_more_than_1048576_is_one_too_many(rt: HostRuntime) -> Result<(), Fail> {
+    let alloc = rt.alloc();
+    let mut text = format!(in alloc; "{HEAD}{NUMBERS}")?.into_bytes();
+    for _ in 0..1_048_577 {
+        text.extend_from_slice(b"cover [10X][11X]\n")?;
+    }
+    text.extend_from_slice(b"end\n")?;
+    assert_eq!(rt;
+        judged(alloc, &text)?.as_slice(),
+        b"too many members: 1048577".as_slice()
+    );
+    Ok(())
+}
