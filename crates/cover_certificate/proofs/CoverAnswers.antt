@@ -9,7 +9,9 @@ use Rattle.reaching_layer.specs.declared.fault.CoverFault.TheVariants.{TooMany, 
 use Rattle.element_table.specs.Elements.{TableEntries}
 use Rattle.written_items.specs.declared.item.Item.{Item}
 use Rattle.isotopologue_text.specs.Isotopologues.{formula_elements}
-use Rattle.cover_certificate.specs.FormulaCovers.{CoverEntries, member_entry, cover_of, cover_unless_too_many}
+use Rattle.isotopologue_text.specs.Printed.{Printed, printed_isotopes}
+use Rattle.cover_certificate.specs.FormulaCovers.{CoverEntries, member_entry, printed_cover, cover_of, cover_unless_too_many}
+use Rattle.cover_certificate.proofs.PrintedMembers.{printed_are_entries}
 
 -- either answer or the fault, by the same test
 still_many : {A B : Type 0} (many : Bool) (t told : ℕ) (a : A) (b : B) →
@@ -62,3 +64,9 @@ module _ (table : TableEntries) (formula : List (Item × ℕ)) (coverage : ℕ) 
       let t : ℕ = last_threshold_for (formula_elements table formula) coverage in
       still_many (has_too_many (formula_elements table formula) t) t told
       (cover_numbers (formula_elements table formula) coverage) (cover_of table formula coverage) given
+
+  -- it is the cover that is printed with what is found once for the formula
+  pub printed_cover_is : (parts : List (Item × ℕ)) (printed : Printed) (numbers : CoverNumbers) → parts ≡ formula →
+      printed ≡ printed_isotopes table formula → with_numbers numbers ≡ printed_cover parts coverage printed numbers
+  printed_cover_is parts printed numbers same is =
+      rw (same, is, printed_are_entries table formula numbers.members) refl

@@ -1,6 +1,6 @@
 -- The cover of a formula, as it is printed. Bounds of probabilities, thresholds and coverages are in units of 10^-18,
 -- masses in 10^-12 Da.
-use Rattle.std.specs.Prelude.{ℕ, List, length, map, Result, Ok, Err, if◌then◌else◌}
+use Rattle.std.specs.Prelude.{◌≡◌, ◌≤◌, ℕ, List, All, length, map, sum, Result, Ok, Err, if◌then◌else◌}
 use Rattle.std.specs.List.{concat}
 use Rattle.multinomial_bounds.specs.Isotopologue.{Element}
 use Rattle.isotopologue_sets.specs.Layers.{has_too_many, last_threshold_for}
@@ -11,6 +11,7 @@ use Rattle.reaching_layer.specs.declared.fault.CoverFault.TheVariants.{TooMany}
 use Rattle.element_table.specs.Elements.{TableEntries}
 use Rattle.written_items.specs.declared.item.Item.{Item}
 use Rattle.isotopologue_text.specs.Isotopologues.{formula_elements, isotopologue_text_of, isotopologue_mass_of}
+use Rattle.isotopologue_text.specs.Printed.{Printed, printed_text, printed_mass}
 
 -- an isotopologue as it is printed: the counts of its isotopes, one element after another, its text, its mass, and
 -- the bounds of its probability
@@ -31,12 +32,6 @@ pub record CoverEntries : Type 0 where
   pub bound : ℕ
   pub layer : List MemberEntry
 
--- a cover by its numbers, without texts and masses
-pub record NumberedEntries : Type 0 where
-  pub formula : List (Item × ℕ)
-  pub coverage : ℕ
-  pub numbers : CoverNumbers
-
 -- a member with its text and its mass
 unfoldable pub member_entry : TableEntries → List (Item × ℕ) → Member → MemberEntry
 member_entry table formula member =
@@ -49,17 +44,34 @@ member_entry table formula member =
       hi = member.hi;
     }
 
--- the cover whose numbers these are
-abbrev pub with_texts : TableEntries → NumberedEntries → CoverEntries
-with_texts table cover =
+-- a member as it is printed with the isotopes of its formula
+unfoldable pub printed_member : Printed → Member → MemberEntry
+printed_member printed member =
+    let counts = concat member.counts in
     record {
-      formula = cover.formula;
-      coverage = cover.coverage;
-      threshold = cover.numbers.threshold;
-      size = cover.numbers.size;
-      bound = cover.numbers.bound;
-      layer = map (member_entry table cover.formula) cover.numbers.members;
+      counts = counts;
+      text = printed_text printed counts;
+      mass = printed_mass printed counts;
+      lo = member.lo;
+      hi = member.hi;
     }
+
+-- the cover that has these numbers, whose members are printed with these isotopes
+abbrev pub printed_cover : List (Item × ℕ) → ℕ → Printed → CoverNumbers → CoverEntries
+printed_cover formula coverage printed numbers =
+    record {
+      formula = formula;
+      coverage = coverage;
+      threshold = numbers.threshold;
+      size = numbers.size;
+      bound = numbers.bound;
+      layer = map (printed_member printed) numbers.members;
+    }
+
+-- each member has a count for each of these isotopes, and not more atoms than a formula
+abbrev pub ArePrintedWith : Printed → List Member → Type 0
+ArePrintedWith printed members =
+    All (λ m. (length (concat m.counts) ≡ length printed.isotopes) × (sum (concat m.counts) ≤ 20000)) members
 
 -- the cover of a formula for a coverage
 unfoldable pub cover_of : TableEntries → List (Item × ℕ) → ℕ → CoverEntries

@@ -1,10 +1,10 @@
 //! The cover of a formula.
 
 use crate::member::{CoverMember, members_of};
+use crate::numbered::{NumberedCover, numbered_cover_of};
 use element_table::Table;
 use formula_text::Formula;
-use isotopologue_text::elements_of;
-use reaching_layer::{CoverFault, reaching_layer};
+use reaching_layer::CoverFault;
 use std::alloc::{AllocError, Global};
 use std::marker::Model;
 
@@ -39,7 +39,21 @@ impl Model for Cover {
 }
 
 impl Cover {
-    ghost use Rattle.std.specs.Prelude.{◌≡◌, ◌≤◌, length};
+    ghost use Rattle.std.specs.Prelude.{◌≡◌, ◌≤◌, IfOk, length};
+
+    /// The same cover, with the texts of its members.
+    pub fn of_numbered(alloc: Global, numbered: &NumberedCover) -> Result<Cover, AllocError>
+        ensures { IfOk result (λ c. c ≡ numbered.now) }
+    {
+        Ok(Cover {
+            formula: numbered.formula().clone()?,
+            coverage: numbered.coverage(),
+            threshold: numbered.threshold(),
+            size: numbered.size(),
+            bound: numbered.bound(),
+            layer: members_of(alloc, numbered)?,
+        })
+    }
 
     /// How many members the cover has: as few, from the first one of the layer on, as have lower bounds that total
     /// at least the coverage.
@@ -119,14 +133,6 @@ pub fn cover_of(
         All (λ m. IsEnclosure m.lo m.hi (isotopologue_weight elements m.counts) (all_weight elements))
         (map (member_numbers elements) c.layer)) }
 {
-    let elements = elements_of(alloc, table, formula)?;
-    let numbers = reaching_layer(alloc, &elements, coverage)?;
-    Ok(Cover {
-        formula: formula.clone()?,
-        coverage,
-        threshold: numbers.threshold(),
-        size: numbers.size() as u64,
-        bound: numbers.bound() as u64,
-        layer: members_of(alloc, table, formula, &numbers)?,
-    })
+    let numbered = numbered_cover_of(alloc, table, formula, coverage)?;
+    Ok(Cover::of_numbered(alloc, &numbered)?)
 }

@@ -1,10 +1,7 @@
 //! One isotopologue of a layer.
 
-use element_table::Table;
-use formula_text::Formula;
-use isotopologue_text::{isotopologue_mass, isotopologue_text};
+use crate::numbered::NumberedCover;
 use multinomial_bounds::Enclosure;
-use reaching_layer::ReachingLayer;
 use std::alloc::{AllocError, Global};
 use std::marker::Model;
 
@@ -65,53 +62,38 @@ impl CoverMember {
     }
 }
 
-ghost use Rattle.std.specs.Prelude.{◌≡◌, ◌<◌, All, IfOk, length, map, slice_index_or};
-ghost use Rattle.isotopologue_sets.specs.Covers.{Member};
-ghost use Rattle.multinomial_bounds.specs.Isotopologue.{IsIsotopologue};
-ghost use Rattle.formula_text.specs.Masses.{HasItems};
-ghost use Rattle.isotopologue_text.specs.Isotopologues.{formula_elements, IsIsotopologueOf};
-ghost use Rattle.cover_certificate.specs.FormulaCovers.{member_entry};
+ghost use Rattle.std.specs.Prelude.{◌≡◌, ◌<◌, IfOk, length, slice_index_or};
+ghost use Rattle.cover_certificate.specs.FormulaCovers.{MemberEntry};
 
-/// The members of the reaching layer of a formula's elements, with their texts and masses.
+/// The members of the layer of a cover, with their texts.
 pub(crate) fn members_of(
     alloc: Global,
-    table: &Table,
-    formula: &Formula,
-    layer: &ReachingLayer,
+    cover: &NumberedCover,
 ) -> Result<Vec<CoverMember>, AllocError>
-    requires known { HasItems table.now formula.now }
-    requires isotopologues { All (λ m. IsIsotopologue (formula_elements table.now formula.now) m.counts) layer.now.members }
-    ensures members { IfOk result (λ members.
-        members.items ≡ map (member_entry table.now formula.now) layer.now.members) }
-    ensures of_formula { IfOk result (λ members.
-        All (λ m. IsIsotopologueOf table.now formula.now m.counts) members.items) }
+    ensures { IfOk result (λ members. members.items ≡ cover.now.layer) }
 {
-    let mut members = Vec::new(alloc);
-    for place in 0..layer.len() {
-        members.push(member_at(alloc, table, formula, layer, place)?)?;
+    let mut members = Vec::with_capacity(alloc, cover.len())?;
+    for place in 0..cover.len() {
+        members.push(member_at(alloc, cover, place)?)?;
     }
     Ok(members)
 }
 
-/// The member at a place of the reaching layer of a formula's elements, with its text and mass.
-pub(crate) fn member_at(
+/// The member at a place of the layer of a cover, with its text.
+fn member_at(
     alloc: Global,
-    table: &Table,
-    formula: &Formula,
-    layer: &ReachingLayer,
+    cover: &NumberedCover,
     place: usize,
 ) -> Result<CoverMember, AllocError>
-    requires known { HasItems table.now formula.now }
-    requires isotopologues { All (λ m. IsIsotopologue (formula_elements table.now formula.now) m.counts) layer.now.members }
-    requires within { place < length layer.now.members }
-    ensures { IfOk result (λ m. (d : Member) →
-        m ≡ member_entry table.now formula.now (slice_index_or layer.now.members place d)) }
+    requires { place < length cover.now.layer }
+    ensures { IfOk result (λ m. (d : MemberEntry) → m ≡ slice_index_or cover.now.layer place d) }
 {
-    let counts = layer.counts(place);
+    let mut text = Vec::new(alloc);
+    cover.push_text(place, &mut text)?;
     Ok(CoverMember {
-        counts: counts.to_vec(alloc)?,
-        text: isotopologue_text(alloc, table, formula, counts)?,
-        mass: isotopologue_mass(table, formula, counts),
-        enclosure: layer.enclosure(place),
+        counts: cover.counts(place).to_vec(alloc)?,
+        text,
+        mass: cover.mass(place),
+        enclosure: cover.enclosure(place),
     })
 }

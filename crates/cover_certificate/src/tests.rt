@@ -496,11 +496,12 @@ fn members_get_their_texts_one_at_a_time(rt: HostRuntime) -> Result<(), Fail> {
     assert_eq!(rt; found.coverage(), 990_000_000_000_000_000);
     assert_eq!(rt; found.formula().items(), formula.items());
     assert!(rt; found.len() > 1);
-    let last = found.member(alloc, &table, 1)?;
     let (text, mass, lo, hi) = DIOXIDES[1];
-    assert_eq!(rt; last.text(), text);
-    assert_eq!(rt; last.mass(), mass);
-    assert_eq!(rt; (last.enclosure().lo, last.enclosure().hi), (lo, hi));
+    let mut last = Vec::new(alloc);
+    found.push_text(1, &mut last)?;
+    assert_eq!(rt; last.as_slice(), text);
+    assert_eq!(rt; found.mass(1), mass);
+    assert_eq!(rt; (found.enclosure(1).lo, found.enclosure(1).hi), (lo, hi));
     Ok(())
 }
 

@@ -1,5 +1,5 @@
 //! `envelope`: the cover of an ion.
-ghost use Rattle.std.specs.Prelude.{◌≡◌, ◌≤◌, ℤ, All, IfOk};
+ghost use Rattle.std.specs.Prelude.{◌≡◌, ◌<◌, ◌≤◌, ℤ, All, IfOk, OnOk, length, slice_index_or};
 ghost use Rattle.std.specs.List.{flat_map};
 ghost use Rattle.command_words.specs.declared.options.TheConstants.{MIN_COVERAGE, MAX_COVERAGE};
 ghost use Rattle.element_table.specs.Elements.{IsTable};
@@ -12,7 +12,8 @@ ghost use Rattle.isoform.specs.Outside.{IsPart, Puts, shelved};
 ghost use Rattle.isoform.specs.Refusals.{GivesInput};
 ghost use Rattle.isoform.specs.Reports.{asked_cover, cover_report};
 ghost use Rattle.isoform.specs.Steps.{ion_step};
-ghost use Rattle.report_lines.specs.ReportLines.{IsPrintedWith, isotopologue_line};
+ghost use Rattle.cover_certificate.specs.FormulaCovers.{MemberEntry};
+ghost use Rattle.report_lines.specs.ReportLines.{IsPrintedWith, cover_members, isotopologue_line};
 
 use crate::input_fault::InputFault;
 use crate::inputs::{adduct_in, table_of, traced_table};
@@ -21,13 +22,13 @@ use crate::refusal::Refusal;
 use adducts::{Adduct, ion_of};
 use command_words::Word;
 use cover_certificate::{
-    CertificateWrite, Cover, CoverFault, CoverMember, cover_of, write_certificate,
+    CertificateWrite, Cover, CoverFault, NumberedCover, numbered_cover_of, write_certificate,
 };
 use element_table::Table;
 use formula_text::{Formula, read_formula};
 use outside_ports::{Shelf, Sink};
-use report_lines::{envelope_head, push_isotopologue_line};
-use std::alloc::Global;
+use report_lines::{numbered_head, push_isotopologue_words};
+use std::alloc::{AllocError, Global};
 use std::marker::Model;
 
 /// The options of `envelope`, as its request has them.
@@ -44,7 +45,7 @@ pub struct EnvelopeOptions {
 #[derive(Drop)]
 pub struct Envelope {
     table: Table,
-    cover: Cover,
+    cover: NumberedCover,
     shift: i128,
 }
 
@@ -118,7 +119,7 @@ impl Envelope {
         requires to { coverage ≤ MAX_COVERAGE }
         ensures { GivesInput (λ e. e) (cover_query table ion shift coverage) result }
     {
-        match cover_of(alloc, &table, &ion, coverage) {
+        match numbered_cover_of(alloc, &table, &ion, coverage) {
             Ok(cover) => Ok(Envelope {
                 table,
                 cover,
@@ -135,7 +136,8 @@ impl Envelope {
         ensures holds { HoldsTrue self.now.table (asked_cover self.now) }
         ensures passes { PassesCheck self.now.table (asked_cover self.now) }
     {
-        match write_certificate(alloc, &self.cover) {
+        let cover = Cover::of_numbered(alloc, &self.cover)?;
+        match write_certificate(alloc, &cover) {
             Ok(text) => Ok(text),
             Err(CertificateWrite::TooLong) => Err(Refusal::Input(InputFault::CertificateLimit)),
             Err(CertificateWrite::Memory) => Err(Refusal::Memory),
@@ -148,9 +150,8 @@ impl Envelope {
             (O.written out.old) (O.written out.new) (O.faults out.old) (O.faults out.new) result }
         ensures holds { HoldsTrue self.now.table (asked_cover self.now) }
     {
-        put_text(&envelope_head(alloc, &self.cover)?, out)?;
-        let (members, _) = self.cover.layer().split_at(self.cover.size() as usize);
-        put_members(alloc, members, self.shift, out)
+        put_text(&numbered_head(alloc, &self.cover)?, out)?;
+        put_members(alloc, &self.cover, self.shift, out)
     }
 }
 
@@ -181,19 +182,47 @@ fn electron_shift(table: &Table, adduct: &Adduct) -> i128
 /// Puts the lines of the members of a cover.
 fn put_members<O: Sink>(
     alloc: Global,
-    members: &[CoverMember],
+    cover: &NumberedCover,
     shift: i128,
     out: &mut O,
 ) -> Result<(), Refusal>
-    requires { All (IsPrintedWith shift) members.now }
-    ensures { Puts (flat_map (isotopologue_line shift) members.now)
+    requires { All (IsPrintedWith shift) (cover_members cover.now) }
+    ensures { Puts (flat_map (isotopologue_line shift) (cover_members cover.now))
         (O.written out.old) (O.written out.new) (O.faults out.old) (O.faults out.new) result }
 {
+    let mut text = Vec::new(alloc);
     let mut line = Vec::new(alloc);
-    for member in members {
-        line.clear();
-        push_isotopologue_line(&mut line, member, shift)?;
+    for place in 0..cover.size() as usize {
+        write_member(cover, place, shift, &mut text, &mut line)?;
         put_text(&line, out)?;
     }
     Ok(())
+}
+
+/// Makes the line of the member at a place of a cover, and its text. Both are used again.
+fn write_member(
+    cover: &NumberedCover,
+    place: usize,
+    shift: i128,
+    text: &mut Vec<u8>,
+    line: &mut Vec<u8>,
+) -> Result<(), AllocError>
+    requires within { place < length cover.now.layer }
+    requires printed { (d : MemberEntry) → IsPrintedWith shift (slice_index_or cover.now.layer place d) }
+    ensures { OnOk result ((d : MemberEntry) →
+        line.new.items ≡ isotopologue_line shift (slice_index_or cover.now.layer place d)) }
+{
+    text.clear();
+    cover.push_text(place, text)?;
+    line.clear();
+    let mass = cover.mass(place);
+    let enclosure = cover.enclosure(place);
+    push_isotopologue_words(
+        line,
+        text.as_slice(),
+        mass,
+        enclosure.lo,
+        enclosure.hi,
+        shift,
+    )
 }

@@ -66,14 +66,17 @@ decompose_line table formula adduct mz =
     option_map_or (λ mass. formula_line formula (mass_of table formula) mass mz (divisor_of adduct))
     (ion_mass table adduct formula) []
 
--- the lines above the isotopologues of a cover
+-- the lines above the isotopologues of a cover of a formula, for a coverage, with its size, bound and threshold
+abbrev pub head_lines : List (Item × ℕ) → ℕ → ℕ → ℕ → ℕ → List ℕ
+head_lines formula coverage size bound threshold =
+    line (codes "envelope" ∷ printed_text formula ∷ [])
+    ++ line (codes "coverage" ∷ decimal coverage ∷ [])
+    ++ line (codes "size" ∷ decimal size ∷ [])
+    ++ line (codes "bound" ∷ decimal bound ∷ [])
+    ++ line (codes "threshold" ∷ decimal threshold ∷ [])
+
 abbrev pub envelope_head : CoverEntries → List ℕ
-envelope_head cover =
-    line (codes "envelope" ∷ printed_text cover.formula ∷ [])
-    ++ line (codes "coverage" ∷ decimal cover.coverage ∷ [])
-    ++ line (codes "size" ∷ decimal cover.size ∷ [])
-    ++ line (codes "bound" ∷ decimal cover.bound ∷ [])
-    ++ line (codes "threshold" ∷ decimal cover.threshold ∷ [])
+envelope_head cover = head_lines cover.formula cover.coverage cover.size cover.bound cover.threshold
 
 -- the mass of a member of a cover with a shift added, as that of its electrons
 abbrev pub shifted_mass : ℤ → MemberEntry → ℤ
@@ -88,6 +91,10 @@ abbrev pub isotopologue_line : ℤ → MemberEntry → List ℕ
 isotopologue_line shift member =
     line (codes "isotopologue" ∷ member.text ∷ ion_mass_text (shifted_mass shift member)
     ∷ decimal member.lo ∷ decimal member.hi ∷ [])
+
+-- a member as its line names it, by its text, its mass and the bounds of its probability
+abbrev pub member_of_words : List ℕ → ℕ → ℕ → ℕ → MemberEntry
+member_of_words text mass lo hi = record { counts = []; text = text; mass = mass; lo = lo; hi = hi }
 
 -- the members of a cover: the first ones of its layer, as many as its size
 abbrev pub cover_members : CoverEntries → List MemberEntry

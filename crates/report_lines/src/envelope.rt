@@ -1,12 +1,13 @@
 //! The lines of the report of a cover.
 ghost use Rattle.std.specs.Prelude.{◌≡◌, ◌++◌, length, take, All, IfOk, OnOk, OnErr};
 ghost use Rattle.std.specs.List.{flat_map};
-ghost use Rattle.report_lines.specs.ReportLines.{IsPrintedWith, cover_members};
-ghost use Rattle.report_lines.specs.ReportLines.{envelope_head, isotopologue_line, envelope_text};
+ghost use Rattle.report_lines.specs.ReportLines.{IsPrintedWith, cover_members, member_of_words};
+ghost use Rattle.report_lines.specs.ReportLines.{envelope_head, head_lines, isotopologue_line, envelope_text};
 
 use crate::line::{cut_unless_pushed, push_line};
 use crate::word::{Word, ion_mass_word};
-use cover_certificate::{Cover, CoverMember};
+use cover_certificate::{Cover, CoverMember, NumberedCover};
+use formula_text::Formula;
 use std::alloc::{AllocError, Global};
 
 /// The five lines above the isotopologues of a cover: its formula, coverage, size, bound and threshold.
@@ -18,38 +19,60 @@ pub fn envelope_head(alloc: Global, cover: &Cover) -> Result<Vec<u8>, AllocError
     Ok(text)
 }
 
+/// The same lines of a cover whose members get their texts one at a time.
+pub fn numbered_head(alloc: Global, cover: &NumberedCover) -> Result<Vec<u8>, AllocError>
+    ensures { IfOk result (λ text. text.items ≡ envelope_head cover.now) }
+{
+    let mut text = Vec::new(alloc);
+    push_head_lines(
+        &mut text,
+        cover.formula(),
+        cover.coverage(),
+        cover.size(),
+        cover.bound(),
+        cover.threshold(),
+    )?;
+    Ok(text)
+}
+
 /// Appends the five lines above the isotopologues of a cover. Without room for them the report stays as it was.
 pub fn push_envelope_head(report: &mut Vec<u8>, cover: &Cover) -> Result<(), AllocError>
     ensures lines { OnOk result (report.new.items ≡ report.old.items ++ envelope_head cover.now) }
     ensures refused { OnErr result (report.new.items ≡ report.old.items) }
 {
     let start = report.len();
-    let pushed = push_head_lines(report, cover);
+    let pushed = push_head_lines(
+        report,
+        cover.formula(),
+        cover.coverage(),
+        cover.size(),
+        cover.bound(),
+        cover.threshold(),
+    );
     cut_unless_pushed(report, start, pushed)
 }
 
 /// Appends the five lines above the isotopologues of a cover, or as many as there is room for.
-fn push_head_lines(report: &mut Vec<u8>, cover: &Cover) -> Result<(), AllocError>
-    ensures lines { OnOk result (report.new.items ≡ report.old.items ++ envelope_head cover.now) }
+fn push_head_lines(
+    report: &mut Vec<u8>,
+    formula: &Formula,
+    coverage: u64,
+    size: u64,
+    bound: u64,
+    threshold: u64,
+) -> Result<(), AllocError>
+    ensures lines { OnOk result (
+        report.new.items ≡ report.old.items ++ head_lines formula.now coverage size bound threshold) }
     ensures kept { OnErr result (take (length report.old.items) report.new.items ≡ report.old.items) }
 {
     push_line(
         report,
-        &[
-            Word::Text(b"envelope"),
-            Word::Formula(cover.formula().items()),
-        ],
+        &[Word::Text(b"envelope"), Word::Formula(formula.items())],
     )?;
-    push_line(
-        report,
-        &[Word::Text(b"coverage"), Word::Number(cover.coverage())],
-    )?;
-    push_line(report, &[Word::Text(b"size"), Word::Number(cover.size())])?;
-    push_line(report, &[Word::Text(b"bound"), Word::Number(cover.bound())])?;
-    push_line(
-        report,
-        &[Word::Text(b"threshold"), Word::Number(cover.threshold())],
-    )
+    push_line(report, &[Word::Text(b"coverage"), Word::Number(coverage)])?;
+    push_line(report, &[Word::Text(b"size"), Word::Number(size)])?;
+    push_line(report, &[Word::Text(b"bound"), Word::Number(bound)])?;
+    push_line(report, &[Word::Text(b"threshold"), Word::Number(threshold)])
 }
 
 /// The line of an isotopologue: its text, its mass with the shift added, in 10^-12 Da, and the bounds of its
@@ -78,16 +101,41 @@ pub fn push_isotopologue_line(
     ensures line { OnOk result (report.new.items ≡ report.old.items ++ isotopologue_line shift member.now) }
     ensures refused { OnErr result (report.new.items ≡ report.old.items) }
 {
-    let mass = i128::from(member.mass()) + shift;
     let enclosure = member.enclosure();
+    push_isotopologue_words(
+        report,
+        member.text(),
+        member.mass(),
+        enclosure.lo,
+        enclosure.hi,
+        shift,
+    )
+}
+
+/// Appends the line of an isotopologue of this text and mass, and with these bounds of its probability, as
+/// [`isotopologue_line`] gives it. Without room for it the report stays as it was.
+pub fn push_isotopologue_words(
+    report: &mut Vec<u8>,
+    text: &[u8],
+    mass: u64,
+    lo: u64,
+    hi: u64,
+    shift: i128,
+) -> Result<(), AllocError>
+    requires { IsPrintedWith shift (member_of_words text.now mass lo hi) }
+    ensures line { OnOk result (
+        report.new.items ≡ report.old.items ++ isotopologue_line shift (member_of_words text.now mass lo hi)) }
+    ensures refused { OnErr result (report.new.items ≡ report.old.items) }
+{
+    let mass = i128::from(mass) + shift;
     push_line(
         report,
         &[
             Word::Text(b"isotopologue"),
-            Word::Text(member.text()),
+            Word::Text(text),
             ion_mass_word(mass),
-            Word::Number(enclosure.lo),
-            Word::Number(enclosure.hi),
+            Word::Number(lo),
+            Word::Number(hi),
         ],
     )
 }

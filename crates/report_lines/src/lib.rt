@@ -22,8 +22,8 @@ pub use decompose::{
     push_decompose_line, push_formula_line, push_items_line, push_peak_line,
 };
 pub use envelope::{
-    envelope_head, envelope_text, isotopologue_line, push_envelope_head, push_envelope_text,
-    push_isotopologue_line,
+    envelope_head, envelope_text, isotopologue_line, numbered_head, push_envelope_head,
+    push_envelope_text, push_isotopologue_line, push_isotopologue_words,
 };
 
 #[cfg(test)]

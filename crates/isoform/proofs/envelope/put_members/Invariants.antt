@@ -2,12 +2,12 @@ use Rattle.std.proofs.Common.{take}
 use Rattle.std.specs.Prelude.{Ok}
 use Rattle.std.specs.List.{flat_map}
 use Rattle.isoform.specs.Outside.{Puts}
-use Rattle.report_lines.specs.ReportLines.{isotopologue_line}
+use Rattle.report_lines.specs.ReportLines.{cover_members, isotopologue_line}
 use Rattle.isoform.proofs.envelope.put_members.Given as goal
 
 -- the lines of the members so far were put
-abbrev pub invariant-loop-member : goal.invariant-loop-member
-invariant-loop-member g l =
-    Puts (flat_map (isotopologue_line l.fn.shift) (take l.member-index l.members))
+abbrev pub invariant-loop-place : goal.invariant-loop-place
+invariant-loop-place g l =
+    Puts (flat_map (isotopologue_line l.fn.shift) (take l.place (cover_members l.cover)))
     (g.O.Sink.written l.initial.out) (g.O.Sink.written l.out)
     (g.O.Sink.faults l.initial.out) (g.O.Sink.faults l.out) (Ok tt)

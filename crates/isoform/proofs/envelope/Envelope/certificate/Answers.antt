@@ -12,10 +12,10 @@ pub returns-in-Ok-clause-text : goal.returns-in-Ok-clause-text
 returns-in-Ok-clause-text c =
     let covered : c.self.inside.cover ≡ asked_cover c.args.self.now = c.self.invariant.0 ∙ ap asked_cover c.self.view_is in
     ap (λ (r : Result (List ℕ) CertificateWrite). or_fault_as (λ fault. CertificateLimit) r)
-    (ap cover_certificate (sym covered) ∙ c.in-Ok.ensures.text)
+    (ap cover_certificate (sym (c.in_ok-cover.ensures ∙ covered)) ∙ c.in-Ok.ensures.text)
 
 pub returns-in-Err-TooLong-clause-text : goal.returns-in-Err-TooLong-clause-text
 returns-in-Err-TooLong-clause-text c =
     let covered : c.self.inside.cover ≡ asked_cover c.args.self.now = c.self.invariant.0 ∙ ap asked_cover c.self.view_is in
     ap (λ (r : Result (List ℕ) CertificateWrite). or_fault_as (λ fault. CertificateLimit) r)
-    (ap cover_certificate (sym covered) ∙ (rw c.in-Err-TooLong.field-0-is at c.in-Err-TooLong.ensures.text))
+    (ap cover_certificate (sym (c.in_ok-cover.ensures ∙ covered)) ∙ (rw c.in-Err-TooLong.field-0-is at c.in-Err-TooLong.ensures.text))

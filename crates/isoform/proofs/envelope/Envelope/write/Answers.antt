@@ -23,7 +23,7 @@ returns-in_err-put_text-clause-puts g c =
     let shift = c.self.inside.shift in
     let lines : List ℕ = flat_map (isotopologue_line shift) (cover_members cover) in
     let given = err_from_is_err_and c.from_residual-in_err-put_text.result c.from_residual-in_err-put_text.ensures.1 in
-    let head : c.deref.result.now ≡ envelope_head cover = c.deref.ensures.value ∙ c.in_ok-envelope_head.ensures in
+    let head : c.deref.result.now ≡ envelope_head cover = c.deref.ensures.value ∙ c.in_ok-numbered_head.ensures in
     rw (given.1, given.2)
     (subst (λ (t : List ℕ). Puts t (g.O.Sink.written c.args.out.now) (g.O.Sink.written c.put_text.new.out)
     (g.O.Sink.faults c.args.out.now) (g.O.Sink.faults c.put_text.new.out) (Err c.in_err-put_text.field-0.0))
@@ -34,24 +34,18 @@ returns-in_err-put_text-clause-puts g c =
 pub put_members-requires : goal.put_members-requires
 put_members-requires g c =
     let fits : SFits w128 c.self.inside.shift = fits_small c.self.inside.shift c.self.invariant.3 in
-    let cover = c.self.inside.cover in
-    let front : c.split_at.result.0.now ≡ cover_members cover =
-    rw (c.split_at.ensures.front, c.size.ensures.size, c.layer.ensures) refl in
-    simp to_z-of_z (subst (All (IsPrintedWith c.self.inside.shift)) (sym front) c.self.invariant.2)
+    simp to_z-of_z c.self.invariant.2
 
 pub returns-clause-puts : goal.returns-clause-puts
 returns-clause-puts g c =
     let fits : SFits w128 c.self.inside.shift = fits_small c.self.inside.shift c.self.invariant.3 in
     let cover = c.self.inside.cover in
     let shift = c.self.inside.shift in
-    let members : List MemberEntry = c.split_at.result.0.now in
-    let head : c.deref.result.now ≡ envelope_head cover = c.deref.ensures.value ∙ c.in_ok-envelope_head.ensures in
-    let front : members ≡ cover_members cover =
-    rw (c.split_at.ensures.front, c.size.ensures.size, c.layer.ensures) refl in
+    let lines : List ℕ = flat_map (isotopologue_line shift) (cover_members cover) in
+    let head : c.deref.result.now ≡ envelope_head cover = c.deref.ensures.value ∙ c.in_ok-numbered_head.ensures in
     subst (λ (t : List ℕ). Puts t (g.O.Sink.written c.args.out.now) (g.O.Sink.written c.put_members.new.out)
     (g.O.Sink.faults c.args.out.now) (g.O.Sink.faults c.put_members.new.out) c.put_members.result)
-    (ap (λ t. t ++ flat_map (isotopologue_line shift) members) head
-    ∙ ap (λ ms. envelope_head cover ++ flat_map (isotopologue_line shift) ms) front
+    (ap (λ t. t ++ lines) head
     ∙ whole shift cover ∙ ap (envelope_text shift) c.self.invariant.0 ∙ ap cover_report c.self.view_is)
-    (puts_next c.deref.result.now (flat_map (isotopologue_line shift) members) _ _ _ _ _ _ _ c.in_ok-put_text.ensures
+    (puts_next c.deref.result.now lines _ _ _ _ _ _ _ c.in_ok-put_text.ensures
     (simp to_z-of_z at c.put_members.ensures))
