@@ -80,11 +80,7 @@ pub(crate) fn members_of(
 }
 
 /// The member at a place of the layer of a cover, with its text.
-fn member_at(
-    alloc: Global,
-    cover: &NumberedCover,
-    place: usize,
-) -> Result<CoverMember, AllocError>
+fn member_at(alloc: Global, cover: &NumberedCover, place: usize) -> Result<CoverMember, AllocError>
     requires { place < length cover.now.layer }
     ensures { IfOk result (λ m. (d : MemberEntry) → m ≡ slice_index_or cover.now.layer place d) }
 {
