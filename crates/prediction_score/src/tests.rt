@@ -9,10 +9,6 @@ const DALTON: i128 = 1_000_000_000_000;
 
 const WHOLE: u64 = MAX_LO_TOTAL;
 
-fn da(units: u64) -> Tolerance {
-    Tolerance::Da { units }
-}
-
 #[test]
 fn a_member_between_two_peaks_goes_to_the_first(rt: HostRuntime) -> Result<(), Fail> {
     let alloc = rt.alloc();
@@ -56,9 +52,18 @@ fn a_member_between_two_peaks_goes_to_the_first(rt: HostRuntime) -> Result<(), F
     ] {
         let peaks = Peaks::of(alloc, pairs)?.expect(&rt, "peaks");
         let order = PeakOrder::of(alloc, &peaks)?;
-        assert_eq!(rt; order.peak_of(10 * DALTON, 1, da(one)), place);
-        assert_eq!(rt; order.score(alloc, &members, 1, da(one))?, expected);
-        assert_eq!(rt; score(alloc, &members, 1, &peaks, da(one))?, expected);
+        assert_eq!(rt;
+            order.peak_of(10 * DALTON, 1, Tolerance::Da { units: one }),
+            place
+        );
+        assert_eq!(rt;
+            order.score(alloc, &members, 1, Tolerance::Da { units: one })?,
+            expected
+        );
+        assert_eq!(rt;
+            score(alloc, &members, 1, &peaks, Tolerance::Da { units: one })?,
+            expected
+        );
     }
     Ok(())
 }
@@ -90,7 +95,10 @@ fn observed_shares_are_rounded_down(rt: HostRuntime) -> Result<(), Fail> {
         (&[member(10, 10), member(50, 5), member(20, 0)], 15),
         (&[], 0),
     ] {
-        assert_eq!(rt; order.score(alloc, members, 1, da(1))?, expected);
+        assert_eq!(rt;
+            order.score(alloc, members, 1, Tolerance::Da { units: 1 })?,
+            expected
+        );
     }
     Ok(())
 }
@@ -103,8 +111,14 @@ fn peaks_without_intensity_have_no_share(rt: HostRuntime) -> Result<(), Fail> {
         mass: 10 * DALTON,
         lo: 7,
     }];
-    assert_eq!(rt; score(alloc, &members, 2, &peaks, da(0))?, 7);
-    assert_eq!(rt; score(alloc, &members, 1, &peaks, da(0))?, 7);
+    assert_eq!(rt;
+        score(alloc, &members, 2, &peaks, Tolerance::Da { units: 0 })?,
+        7
+    );
+    assert_eq!(rt;
+        score(alloc, &members, 1, &peaks, Tolerance::Da { units: 0 })?,
+        7
+    );
     Ok(())
 }
 
@@ -134,7 +148,7 @@ fn the_largest_numbers_are_scored(rt: HostRuntime) -> Result<(), Fail> {
         },
     ];
     // Half of the total is the share of each of two peaks.
-    let found = order.score(alloc, &members, 30, da(0))?;
+    let found = order.score(alloc, &members, 30, Tolerance::Da { units: 0 })?;
     assert_eq!(rt; found, WHOLE - 2);
     Ok(())
 }
