@@ -6,3 +6,4 @@ pub mod Splits
 pub mod IsotopeTexts
 pub mod ApartIsotopes
 pub mod ReadIsotopologues
+mod PrintedLabels

@@ -3,8 +3,8 @@ ghost use Rattle.std.specs.Prelude.{◌≡◌, ◌++◌, ◌+◌, ◌*◌, ◌�
 ghost use Rattle.element_table.specs.Elements.{IsIsotope};
 ghost use Rattle.formula_text.specs.Formulas.{atoms_of};
 ghost use Rattle.formula_text.specs.Masses.{HasItems};
-ghost use Rattle.isotopologue_text.specs.Isotopologues.{isotopes_that_occur, isotope_item, isotope_items, formula_isotopes, isotope_text, counts_text, counts_mass};
-ghost use Rattle.isotopologue_text.specs.Printed.{printed_isotopes, printed_text, printed_mass};
+ghost use Rattle.isotopologue_text.specs.Isotopologues.{isotopes_that_occur, isotope_item, isotope_items, formula_isotopes, counts_text, counts_mass};
+ghost use Rattle.isotopologue_text.specs.Printed.{AreLabels, labelled_text, printed_isotopes, printed_text, printed_mass};
 
 use crate::isotopes::isotopes_of;
 use crate::mass::labelled_mass;
@@ -20,6 +20,8 @@ use written_items::{push_count, push_item};
 #[derive(Drop)]
 pub struct PrintedIsotopes {
     items: Vec<Item>,
+    /// The text of each item.
+    labels: Vec<Vec<u8>>,
     isotopes: Vec<Isotope>,
     labelled: u64,
     has_plain: bool,
@@ -28,7 +30,7 @@ pub struct PrintedIsotopes {
 impl Model for PrintedIsotopes {
     ghost use Rattle.std.specs.Prelude.{◌≡◌, ◌≤◌, All, length};
     ghost use Rattle.element_table.specs.Elements.{IsIsotope};
-    ghost use Rattle.isotopologue_text.specs.Printed.{Printed};
+    ghost use Rattle.isotopologue_text.specs.Printed.{AreLabels, Printed};
 
     ghost Value = { Printed };
 
@@ -41,6 +43,7 @@ impl Model for PrintedIsotopes {
 
     ghost invariant = { λ p. All IsIsotope p.isotopes.items
         × (length p.items.items ≡ length p.isotopes.items)
+        × AreLabels p.items.items p.labels.items
         × (p.labelled ≤ 8000000000000000000) };
 }
 
@@ -56,8 +59,10 @@ impl PrintedIsotopes {
     {
         let parts = formula.items();
         let (items, isotopes) = gathered(alloc, table, parts)?;
+        let labels = labels_of(alloc, &items)?;
         Ok(PrintedIsotopes {
             items,
+            labels,
             isotopes,
             labelled: labelled_mass(table, parts),
             has_plain: has_plain(parts),
@@ -73,7 +78,7 @@ impl PrintedIsotopes {
             text.push(b'-')?;
             return Ok(());
         }
-        push_counts(text, &self.items, counts)
+        push_counts(text, &self.items, &self.labels, counts)
     }
 
     /// The mass of an isotopologue in 10^-12 Da, the formula's labelled atoms included.
@@ -86,26 +91,45 @@ impl PrintedIsotopes {
     }
 }
 
-/// Appends isotopes with their counts.
-fn push_counts(text: &mut Vec<u8>, items: &[Item], counts: &[u32]) -> Result<(), AllocError>
-    requires { length counts.now ≡ length items.now }
+/// Appends isotopes of these texts with their counts.
+fn push_counts(
+    text: &mut Vec<u8>,
+    items: &[Item],
+    labels: &[Vec<u8>],
+    counts: &[u32],
+) -> Result<(), AllocError>
+    requires labels { AreLabels items.now labels.now }
+    requires one_count_each { length counts.now ≡ length items.now }
     ensures { OnOk result (text.new.items ≡ text.old.items ++ counts_text items.now counts.now) }
 {
     for place in 0..items.len() {
-        push_counted(text, &items[place], counts[place])?;
+        push_counted(text, &labels[place], counts[place])?;
     }
     Ok(())
 }
 
-/// Appends an isotope with its count, unless that is 0.
-fn push_counted(text: &mut Vec<u8>, item: &Item, count: u32) -> Result<(), AllocError>
-    ensures { OnOk result (text.new.items ≡ text.old.items ++ isotope_text item.now count) }
+/// Appends an isotope of this text with its count, unless that is 0.
+fn push_counted(text: &mut Vec<u8>, label: &[u8], count: u32) -> Result<(), AllocError>
+    ensures { OnOk result (text.new.items ≡ text.old.items ++ labelled_text label.now count) }
 {
     if count == 0 {
         return Ok(());
     }
-    push_item(text, item)?;
+    text.extend_from_slice(label)?;
     push_count(text, count)
+}
+
+/// The texts of isotopes.
+fn labels_of(alloc: Global, items: &[Item]) -> Result<Vec<Vec<u8>>, AllocError>
+    ensures { IfOk result (λ labels. AreLabels items.now labels.items) }
+{
+    let mut labels = Vec::new(alloc);
+    for item in items {
+        let mut label = Vec::new(alloc);
+        push_item(&mut label, item)?;
+        labels.push(label)?;
+    }
+    Ok(labels)
 }
 
 /// The sum of count times mass over isotopes.

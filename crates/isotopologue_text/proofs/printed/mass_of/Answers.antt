@@ -1,5 +1,4 @@
-use Rattle.std.proofs.Common.{◌≡◌, ◌+◌, ◌*◌, ◌≤◌, ◌<◌, ℕ, get_or, take, length, arith, ap, sym, ◌∙◌}
-use Rattle.std.specs.Prelude.{sum}
+use Rattle.std.proofs.Common.{◌+◌, ◌*◌, ◌≤◌, ◌<◌, ℕ, get_or, take, length, arith, ap, sym, ◌∙◌}
 use Rattle.std.proofs.Math.Nat.{mul-le-mul_left}
 use Rattle.element_table.specs.declared.element.Isotope.{Isotope}
 use Rattle.isotopologue_text.specs.Isotopologues.{counts_mass}
