@@ -17,8 +17,7 @@ use Rattle.formula_text.specs.Masses.{mass_of, item_mass}
 use Rattle.std.specs.List.{AllByRecursion}
 use Rattle.formula_text.proofs.CountsInOrder.{atoms_of-cons}
 use Rattle.formula_text.proofs.SumFolds.{HasAtoms, sum_of-atoms, sum_of-positive}
-use Rattle.adducts.specs.Adducts.{divisor_of}
-use Rattle.adducts.specs.Ions.{ion_of, ion_mass, mass_of_ion, shift_of}
+use Rattle.adducts.specs.Ions.{ion_of, ion_mass, mass_of_ion}
 use Rattle.adducts.proofs.ItemLists.{Distinct, sum-Distinct}
 use Rattle.adducts.proofs.IonCounts.{formula-is_sum, ion_of-shift}
 use Rattle.adducts.proofs.WeighedSums.{weigh-sum_of}

@@ -12,3 +12,5 @@ pub mod CandidateTests
 pub mod LineTexts
 pub mod WorkedBounds
 pub mod SureLists
+pub mod KeptCounts
+pub mod LeftTokens

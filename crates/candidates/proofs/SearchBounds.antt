@@ -13,7 +13,7 @@ use Rattle.decompose.proofs.StepSums.{number_more, number_some}
 use Rattle.candidates.specs.declared.search.Search.{Search}
 use Rattle.candidates.specs.Grounds.{GroundValue, IsGround}
 use Rattle.candidates.specs.PeakFormulas.{masses_of}
-use Rattle.candidates.specs.Searches.{GoesOn, IsBounded, IsInWindow, Takes}
+use Rattle.candidates.specs.Searches.{GoesOn, IsBounded, Takes}
 use Rattle.candidates.proofs.AlphabetMasses.{are_masses, base_of-alphabet, count-masses}
 use Rattle.candidates.proofs.SearchSteps.{SoFar}
 

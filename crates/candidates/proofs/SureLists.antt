@@ -1,6 +1,6 @@
 -- Windows in which each count list is a candidate, since no limit of a formula or of an ion is near.
-use Rattle.std.proofs.Common.{◌≡◌, ℕ, ◌+◌, ◌*◌, ◌/◌, ◌≤◌, Bool, true, false, cond, ltb, T, inl, inr, List, [], ◌∷◌, length, map, fold, refl, sym, ap, ◌∙◌, arith, length-append}
-use Rattle.std.specs.Prelude.{None, Ok, is_some, nat_le, ◌==◌, ◌&&◌, not}
+use Rattle.std.proofs.Common.{◌≡◌, ℕ, ◌+◌, ◌*◌, ◌/◌, ◌<◌, ◌≤◌, Bool, true, false, cond, ltb, T, inl, inr, List, [], ◌∷◌, length, map, fold, refl, sym, ap, ◌∙◌, arith, length-append}
+use Rattle.std.specs.Prelude.{All, None, Ok, is_some, nat_le, ◌==◌, ◌&&◌, not}
 use Rattle.std.specs.List.{AllByRecursion, list_all}
 use Rattle.std.specs.FinMap.{is_sorted, find}
 use Rattle.std.specs.FinMap.Entries.{length-put}
@@ -108,6 +108,26 @@ unfolding ion_of
 sure-ion adduct f lost h =
     ap (λ l. is_some (cond (list_all (λ p. nat_le p.1 (gained adduct f p.0)) l) (formula_of (ion_counts adduct f)) None)) lost ∙ h
 
+-- few items, some, with few atoms have an ion where nothing is lost
+pub few-ion : (adduct : AdductValue) (f : List (Item × ℕ)) → IsAdduct adduct → Distinct f → adduct.lost ≡ []
+    → 1 ≤ atoms_of f → adduct.copies * atoms_of f + atoms_of adduct.added ≤ 10000 → length f + length adduct.added ≤ 20
+    → is_some (ion_of adduct f) ≡ true
+few-ion adduct f is apart lost some few short =
+    let ion = ion-atoms adduct f is apart lost in
+    let long = ion-length adduct f in
+    let once : 1 * atoms_of f ≤ adduct.copies * atoms_of f = mul-le-mul_right (atoms_of f) is.some_copies in
+    sure-ion adduct f lost
+    (few-formula (ion_counts adduct f) (omega (arith, ion, once, some)) (omega (arith, ion, few))
+    (omega (arith, long, short)))
+
+-- a formula has an atom
+pub some-atoms : (f : List (Item × ℕ)) → 0 < length f → All (λ p. 0 < p.1) f → 1 ≤ atoms_of f
+some-atoms [] some positive = absurd (omega (arith, some))
+some-atoms (p ∷ ps) some positive =
+    let cons = atoms_of-cons p ps in
+    let own = (recursion_from_All (λ (q : Item × ℕ). 0 < q.1) (p ∷ ps) positive).0 in
+    omega (arith, cons, own)
+
 -- ---- each list of a window
 
 -- each atom weighs at least half a Da
@@ -161,16 +181,13 @@ sure-formed premises hi counts is rules lost few short low high =
     let once : 1 * atoms_of parts ≤ adduct.copies * atoms_of parts = mul-le-mul_right (atoms_of parts) is.is_adduct.some_copies in
     let same = sum_of-atoms parts in
     let of_f : adduct.copies * atoms_of f ≡ adduct.copies * atoms_of parts = ap (λ n. adduct.copies * n) same in
-    let ion = ion-atoms adduct f is.is_adduct (sum-Distinct parts) lost in
-    let long = ion-length adduct f in
     let own = sum-length parts in
     let listed = counts-length premises.alphabet counts in
     let formula : is_some (formula_of parts) ≡ true =
     few-formula parts some (omega (arith, few, copied, once)) (omega (arith, listed, short)) in
     let ionized : is_some (ion_of adduct f) ≡ true =
-    sure-ion adduct f lost
-    (few-formula (ion_counts adduct f) (omega (arith, ion, of_f, once, some)) (omega (arith, ion, of_f, copied, few))
-    (omega (arith, long, own, listed, short))) in
+    few-ion adduct f is.is_adduct (sum-Distinct parts) lost (omega (arith, same, some))
+    (omega (arith, of_f, copied, few)) (omega (arith, own, listed, short)) in
     ap (λ b. b && is_some (ion_of adduct f) && meets_all premises.table premises.rules f) formula
     ∙ ap (λ b. b && meets_all premises.table premises.rules f) ionized
     ∙ ap (λ r. meets_all premises.table r f) rules

@@ -3,6 +3,7 @@ pub mod PeakFormulas
 pub mod Enumeration
 pub mod StepBounds
 pub mod Lines
+pub mod KeptLists
 pub mod HillOrders
 pub mod Searches
 pub mod Standings

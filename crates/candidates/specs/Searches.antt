@@ -10,7 +10,6 @@ use Rattle.mass_scaling.specs.Tolerances.{within}
 use Rattle.formula_text.specs.Formulas.{formula_in, within_limits}
 use Rattle.written_items.specs.declared.item.Item.{Item}
 use Rattle.golden_rules.specs.Verdicts.{meets_all}
-use Rattle.alphabet_text.specs.declared.entries.AlphabetEntry.{AlphabetEntry}
 use Rattle.adducts.specs.Adducts.{divisor_of}
 use Rattle.adducts.specs.Ions.{ion_of, shift_of}
 use Rattle.candidates.specs.declared.search.Search.{Search}

@@ -1,5 +1,6 @@
 //! The enumeration of the candidates of a peak.
-ghost use Rattle.std.specs.Prelude.{◌≡◌, ◌≤◌, ◌+◌, ◌↔◌, if◌then◌else◌, [], ◌∷◌, ◌++◌, nat_lt, IfOk, IfSome, IsSomeAnd, OnOk, OnErr, IsErrOf, IsTrue, not, Some, None, length, map, option_map};
+ghost use Rattle.std.specs.Prelude.{◌≡◌, ◌≤◌, ◌<◌, ◌+◌, ◌↔◌, ℕ, List, if◌then◌else◌, [], ◌∷◌, ◌++◌, nat_lt};
+ghost use Rattle.std.specs.Prelude.{IfOk, IfSome, IsSomeAnd, OnOk, OnErr, IsErrOf, IsTrue, not, Some, None, length, map, option_map};
 ghost use Rattle.std.specs.Bool.{OnTrue, OnFalse};
 ghost use Rattle.mass_scaling.specs.declared.limits.TheConstants.{MAX_MZ};
 ghost use Rattle.mass_scaling.specs.Windows.{IsWindow};
@@ -17,6 +18,7 @@ ghost use Rattle.written_items.specs.Items.{item_eq};
 ghost use Rattle.candidates.specs.Tokens.{IsInAlphabetBox, has_only, fits};
 ghost use Rattle.candidates.specs.Standings.{IsSearched, IsToken};
 
+use crate::count_lists::CountLists;
 use crate::grounds::Ground;
 use crate::line::push_line;
 use crate::search::{Search, counts_of, is_sure};
@@ -242,6 +244,53 @@ impl<'t> Candidates<'t> {
             }
         }
         Ok(ahead.advance(steps))
+    }
+
+    /// Goes on to the end and gives all candidates that are left, by their counts, where these are at most `most`. None
+    /// where more are left, and it has gone on over `most` and one of them then. Without memory for them it has gone on
+    /// over some.
+    pub fn keep<L: Ledger>(
+        &mut self,
+        most: usize,
+        steps: &mut Steps<L>,
+    ) -> Result<Option<CountLists>, AllocError>
+        ensures all { IfOk result (λ o. IfSome o (λ lists. lists ≡ counts_left self.old)) }
+        ensures at_end { IfOk result (λ o. IfSome o (λ lists. counts_left self.new ≡ [])) }
+        ensures none { IfOk result (λ o. (o ≡ None) ↔ (most < length (counts_left self.old))) }
+        ensures more { IfOk result (λ o. o ≡ None →
+            length (counts_left self.old) ≡ most + 1 + length (counts_left self.new)) }
+        ensures goes_on { (passed : List (List ℕ)) × (counts_left self.old ≡ passed ++ counts_left self.new) }
+        ensures peak { self.new.mz ≡ self.old.mz }
+        ensures premises { self.new.premises ≡ self.old.premises }
+    {
+        let width = self.counts_given().len();
+        let mut counts = Vec::new(self.alloc);
+        for many in 0..most {
+            if !self.advance(steps) {
+                return Ok(Some(CountLists {
+                    width,
+                    many,
+                    counts,
+                }));
+            }
+            counts.extend_from_slice(self.counts_given())?;
+        }
+        if self.advance(steps) {
+            return Ok(None);
+        }
+        Ok(Some(CountLists {
+            width,
+            many: most,
+            counts,
+        }))
+    }
+
+    /// The counts of the candidate given last, where one was given.
+    fn counts_given(&self) -> &[u32]
+        ensures given { IfSome self.now.given (λ counts. result.now ≡ counts) }
+        ensures length { length result.now ≡ length self.now.premises.alphabet }
+    {
+        self.last.counts()
     }
 
     /// Another enumeration that stands where this one does.

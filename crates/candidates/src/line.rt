@@ -1,24 +1,27 @@
 //! The line of a candidate in a report.
-ghost use Rattle.std.specs.Prelude.{◌≡◌, ◌+◌, ◌*◌, ◌^◌, ◌<◌, ◌≤◌, ◌++◌, pos, ◌+ℤ◌, length, OnOk, OnErr, unsigned_abs};
+ghost use Rattle.std.specs.Prelude.{◌≡◌, ◌+◌, ◌*◌, ◌^◌, ◌<◌, ◌≤◌, ◌++◌, pos, ◌+ℤ◌, length, true, is_some};
+ghost use Rattle.std.specs.Prelude.{OnOk, OnErr, unsigned_abs};
 ghost use Rattle.formula_text.specs.Formulas.{IsFormula};
 ghost use Rattle.formula_text.specs.Masses as formulas;
 ghost use Rattle.decompose.specs.Masses.{mass_of};
 ghost use Rattle.mass_scaling.specs.declared.limits.TheConstants.{MAX_COPIES};
-ghost use Rattle.adducts.specs.Ions.{shift_of};
+ghost use Rattle.adducts.specs.Ions.{ion_of, shift_of};
 ghost use Rattle.report_lines.specs.ReportLines.{decompose_line};
 ghost use Rattle.candidates.specs.Lines.{line_at};
 ghost use Rattle.candidates.specs.Standings.{IsToken};
 
 use crate::grounds::Ground;
-use adducts::has_ion;
+use crate::search::atoms_in;
+use adducts::{Adduct, has_ion};
 use alphabet_text::MAX_ENTRIES;
+use formula_text::{MAX_ATOMS_OF_ITEM, MAX_ITEMS};
 use report_lines::push_items_line;
 use std::alloc::AllocError;
 use written_items::Item;
 
 /// Appends the line of the formula of a count list over its ion, nothing where the ion isn't defined. Without room for
 /// it the report stays as it was.
-pub(crate) fn push_line(
+pub fn push_line(
     premises: &Ground,
     mz: u64,
     counts: &[u32],
@@ -51,12 +54,43 @@ fn push_formula(
         ≡ report.old.items ++ decompose_line premises.now.table formula.now premises.now.adduct mz) }
     ensures refused { OnErr result (report.new.items ≡ report.old.items) }
 {
-    let adduct = premises.adduct();
-    if !has_ion(formula, adduct) {
+    if !is_ionized(formula, premises.adduct()) {
         return Ok(());
     }
     let ion_mass = ion_mass(premises, mass);
-    push_items_line(report, formula, mass, ion_mass, mz, adduct.divisor())
+    push_items_line(
+        report,
+        formula,
+        mass,
+        ion_mass,
+        mz,
+        premises.adduct().divisor(),
+    )
+}
+
+/// Whether the ion of a formula is defined.
+fn is_ionized(formula: &[(Item, u32)], adduct: &Adduct) -> bool
+    requires { IsFormula formula.now }
+    ensures { result ≡ is_some (ion_of adduct.now formula.now) }
+{
+    is_far_from_limits(formula, adduct) || has_ion(formula, adduct)
+}
+
+/// Whether nothing is lost and the ion has so few atoms that it is near no limit. Its ion is defined then, and most
+/// formulas need no other test.
+fn is_far_from_limits(formula: &[(Item, u32)], adduct: &Adduct) -> bool
+    requires { IsFormula formula.now }
+    ensures { result ≡ true → is_some (ion_of adduct.now formula.now) ≡ true }
+{
+    if !adduct.lost().items().is_empty() {
+        return false;
+    }
+    let added = adduct.added();
+    let copied = u64::from(adduct.copies()) * u64::from(atoms_in(formula));
+    if copied + u64::from(added.atoms()) > u64::from(MAX_ATOMS_OF_ITEM) {
+        return false;
+    }
+    formula.len() + added.items().len() <= MAX_ITEMS
 }
 
 /// The mass of a count list, in 10^-12 Da.

@@ -161,7 +161,7 @@ fn has_few_of_each(items: &[(Item, u32)]) -> bool
 }
 
 /// How many atoms there are.
-fn atoms_in(items: &[(Item, u32)]) -> u32
+pub(crate) fn atoms_in(items: &[(Item, u32)]) -> u32
     requires { atoms_of items.now < 2 ^ 32 }
     ensures { result ≡ atoms_of items.now }
 {

@@ -196,6 +196,32 @@ fn push_two_lines<L: Ledger>(
     Ok(())
 }
 
+/// Keeps two candidates, H and H2, of which one is too many at first. The counts are those of O, C and H.
+fn keep_two<L: Ledger>(
+    rt: &impl Abort,
+    alloc: Global,
+    premises: &Ground,
+    mz: u64,
+    blank: Blank,
+) -> Result<(), Fail>
+    requires mz { 1 ≤ mz }
+    requires few_mz { mz ≤ MAX_MZ }
+    requires name { blank.name ≡ L.name }
+    requires parts { blank.parts ≡ L.parts }
+    requires some { 0 < blank.parts }
+{
+    let mut steps = Steps::<L>::new(blank);
+    let mut candidates = Candidates::start(alloc, premises, mz)?;
+    assert!(rt; candidates.keep(1, &mut steps)?.is_none());
+    let mut candidates = Candidates::start(alloc, premises, mz)?;
+    let kept = candidates.keep(2, &mut steps)?.ok_or("two lists")?;
+    assert_eq!(rt; kept.len(), 2);
+    for place in 0..kept.len() {
+        assert_eq!(rt; kept.list(place), [0, 0, place as u32 + 1].as_slice());
+    }
+    Ok(())
+}
+
 #[test]
 fn candidates_are_counted_and_printed_one_by_one(rt: HostRuntime) -> Result<(), Fail> {
     let alloc = rt.alloc();
@@ -212,6 +238,7 @@ fn candidates_are_counted_and_printed_one_by_one(rt: HostRuntime) -> Result<(), 
     let mut report = Vec::new(alloc);
     candidates.push_line(&mut report)?;
     push_two_lines::<Brand>(&rt, &mut candidates, &mut report, Blank::new(1))?;
+    keep_two::<Brand>(&rt, alloc, &premises, 1_000_000_000_000, Blank::new(1))?;
     let lines = b"formula H 1.007825032230 1.007825032230 7825032230
 formula H2 2.015650064460 2.015650064460 1015650064460
 ";

@@ -159,7 +159,7 @@ pub fn push_decompose_line(
 }
 
 /// How far the mass of an ion is above divisor times m/z, in 10^-12 Da.
-fn mass_difference(ion_mass: i128, mz: u64, divisor: u32) -> i128
+pub fn mass_difference(ion_mass: i128, mz: u64, divisor: u32) -> i128
     requires { IsPrintedMass ion_mass }
     ensures { result ≡ mass_difference ion_mass mz divisor }
 {

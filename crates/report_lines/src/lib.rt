@@ -18,13 +18,15 @@ mod word;
 
 pub use check::push_accepted_line;
 pub use decompose::{
-    decompose_head, decompose_line, formula_line, peak_line, push_decompose_head,
+    decompose_head, decompose_line, formula_line, mass_difference, peak_line, push_decompose_head,
     push_decompose_line, push_formula_line, push_items_line, push_peak_line,
 };
 pub use envelope::{
     envelope_head, envelope_text, isotopologue_line, numbered_head, push_envelope_head,
     push_envelope_text, push_isotopologue_line, push_isotopologue_words,
 };
+pub use line::{cut_unless_pushed, push_line};
+pub use word::{Word, ion_mass_word, push_word};
 
 #[cfg(test)]
 mod tests;
