@@ -11,18 +11,19 @@ use Rattle.clap.specs.declared.parser.matches.Found.{Found}
 use Rattle.mass_scaling.specs.declared.tolerances.Tolerance.{Tolerance}
 use Rattle.mass_scaling.specs.declared.tolerances.Tolerance.TheVariants as tolerance
 use Rattle.command_words.specs.ClapCommands.{given_in}
-use Rattle.command_words.specs.Options.{Bytes, command_of, default_text, groups, kind, name, number_within, options, required_options, is_flag}
-use Rattle.command_words.specs.Requests.{Asks, IsReading, IsRequestOf, Values, ValuesAsk, first_outside, go_together, has_companion, has_one, has_value_outside, is_outside, number_of, text_of}
+use Rattle.command_words.specs.Options.{Bytes, command_of, default_text, groups, kind, name, number_within, optional_groups, options, required_options, is_flag}
+use Rattle.command_words.specs.Requests.{Asks, IsReading, IsRequestOf, Values, ValuesAsk, first_outside, go_together, has_companion, has_one, has_one_at_most, has_value_outside, is_outside, number_of, text_of}
 use Rattle.command_words.specs.Uses.{Argument, Use, arguments, value_of, value_in}
-use Rattle.command_words.specs.WordReading.{answer_by, decompose_request, envelope_request, fields_request, is_memory, is_readable, matched, request_of, uses_of, values_request, check_request}
+use Rattle.command_words.specs.WordReading.{answer_by, decompose_request, envelope_request, fields_request, is_memory, is_readable, matched, request_of, uses_of, values_request, check_request, rank_request, generate_request}
 use Rattle.command_words.specs.declared.commands.CommandName.{CommandName}
 use Rattle.command_words.specs.declared.commands.CommandName.TheVariants as command
 use Rattle.command_words.specs.declared.fault.WordsFault.{WordsFault}
 use Rattle.command_words.specs.declared.fault.WordsFault.TheVariants.{Words, Value, Memory}
 use Rattle.command_words.specs.declared.options.OptionName.{OptionName}
+use Rattle.command_words.specs.declared.options.TheConstants.{DEFAULT_TURN}
 use Rattle.command_words.specs.declared.options.OptionName.TheVariants as option
 use Rattle.command_words.specs.declared.request.Request.{Request}
-use Rattle.command_words.specs.declared.request.Request.TheVariants.{Decompose, Envelope, Check}
+use Rattle.command_words.specs.declared.request.Request.TheVariants.{Decompose, Envelope, Rank, Check, Generate}
 use Rattle.command_words.proofs.WordUses.{and_parts, is_plain, readable_from, some-same, uses_of-complete, uses_of-sound}
 
 -- ---- tests of each element
@@ -86,8 +87,11 @@ module _ (values : Values) where
 
   pub companions : (command : CommandName) → AreGood command
       → AllByRecursion (λ option. has_companion values option ≡ true) (options command)
-  companions command good = all_pass (has_companion values) (options command)
-      (and_parts _ _ (and_parts _ _ good.together).1).1
+  companions command good =
+      let groups_on = (and_parts (list_all (λ option. is_some (values option)) (required_options command)) _ good.together).1 in
+      let optional_on = (and_parts (list_all (has_one values) (groups command)) _ groups_on).1 in
+      all_pass (has_companion values) (options command)
+      (and_parts (list_all (has_one_at_most values) (optional_groups command)) _ optional_on).1
 
   pub insides : (command : CommandName) → AreGood command
       → AllByRecursion (λ option. has_value_outside values option ≡ false) (options command)
@@ -106,6 +110,10 @@ module _ (values : Values) where
       go : (given : Option Bytes) → (text : Bytes) × (option_or given (default_text option) ≡ Some text)
       go None = (default, e)
       go (Some text) = (text, refl)
+
+  number_or : (n : Option ℕ) (default : ℕ) → (m : ℕ) × (option_or n (Some default) ≡ Some m)
+  number_or None default = (default, refl)
+  number_or (Some n) default = (n, refl)
 
   -- of one of three, the first there is
   first_there : (a b c : Option ℕ) → (count_by (λ given. given) (is_some a ∷ is_some b ∷ is_some c ∷ []) == 1) ≡ true
@@ -131,9 +139,14 @@ module _ (values : Values) where
         number_given option.PpmCalc (λ _. refl) inside.1.1.1.1.1.0,
       ) (ones command.Decompose good).1.0) in (
         Decompose table.0 (number_of values option.Mass) (values option.Peaks) allowed.0 alphabet.0 adduct.0 rules.0
-            (number_of values option.Limit) (values option.After),
-        (table.1, refl, refl, allowed.1, alphabet.1, adduct.1, rules.1, refl, refl),
+            (number_of values option.Limit) (values option.After) (is_some (values option.Json)),
+        (table.1, refl, refl, allowed.1, alphabet.1, adduct.1, rules.1, refl, refl, refl),
       )
+
+  -- the number of a given option
+  number_there : (option : OptionName) → IsNumber option → has_value_outside values option ≡ false
+      → is_some (values option) ≡ true → (n : ℕ) × (number_of values option ≡ Some n)
+  number_there option numeric inside e = there (number_of values option) (number_given option numeric inside ∙ e)
 
   envelope_values : AreGood command.Envelope → (request : Request) × IsRequestOf command.Envelope values request
   envelope_values good =
@@ -142,10 +155,31 @@ module _ (values : Values) where
       let table = text_given option.Table texts.0 in
       let adduct = text_or option.Adduct _ refl in
       let formula = text_given option.Formula texts.1.0 in
-      let coverage = there (number_of values option.Coverage)
-      (number_given option.Coverage (λ _. refl) inside.1.1.1.1.0 ∙ texts.1.1.0) in (
-        Envelope table.0 (values option.Tracer) adduct.0 formula.0 coverage.0 (is_some (values option.Certificate)),
-        (table.1, refl, adduct.1, formula.1, coverage.1, refl),
+      let coverage = number_there option.Coverage (λ _. refl) inside.1.1.1.1.0 texts.1.1.0 in (
+        Envelope table.0 (values option.Tracer) adduct.0 formula.0 coverage.0 (is_some (values option.Certificate))
+            (is_some (values option.Json)),
+        (table.1, refl, adduct.1, formula.1, coverage.1, refl, refl),
+      )
+
+  rank_values : AreGood command.Rank → (request : Request) × IsRequestOf command.Rank values request
+  rank_values good =
+      let texts = given command.Rank good in
+      let inside = insides command.Rank good in
+      let table = text_given option.Table texts.0 in
+      let peaks = text_given option.Peaks texts.1.0 in
+      let alphabet = text_given option.Alphabet texts.1.1.0 in
+      let adduct = text_or option.Adduct _ refl in
+      let rules = text_or option.Rules _ refl in
+      let coverage = number_there option.Coverage (λ _. refl) inside.1.1.1.1.1.1.1.1.1.0 texts.1.1.1.0 in
+      let turn = number_or (number_of values option.Turn) DEFAULT_TURN in
+      let allowed = first_there _ _ _ (rw (
+        number_given option.Ppm (λ _. refl) inside.1.1.1.0,
+        number_given option.Da (λ _. refl) inside.1.1.1.1.0,
+        number_given option.PpmCalc (λ _. refl) inside.1.1.1.1.1.0,
+      ) (ones command.Rank good).0) in (
+        Rank table.0 (values option.Tracer) peaks.0 allowed.0 alphabet.0 adduct.0 rules.0 coverage.0
+            (number_of values option.Peak) turn.0 (number_of values option.Turns) (is_some (values option.Json)),
+        (table.1, refl, peaks.1, allowed.1, alphabet.1, adduct.1, rules.1, coverage.1, refl, turn.1, refl, refl),
       )
 
   check_values : AreGood command.Check → (request : Request) × IsRequestOf command.Check values request
@@ -155,28 +189,50 @@ module _ (values : Values) where
       let certificate = text_given option.Certificate texts.1.0 in
       (Check table.0 (values option.Tracer) certificate.0, (table.1, refl, certificate.1))
 
+  generate_values : AreGood command.Generate → (request : Request) × IsRequestOf command.Generate values request
+  generate_values good =
+      let texts = given command.Generate good in
+      let inside = insides command.Generate good in
+      let table = text_given option.Table texts.0 in
+      let number = number_there option.Number (λ _. refl) inside.1.0 texts.1.0 in
+      (Generate table.0 number.0, (table.1, number.1))
+
   values_fields : (command : CommandName) → AreGood command → (request : Request) × IsRequestOf command values request
   values_fields command.Decompose good = decompose_values good
   values_fields command.Envelope good = envelope_values good
+  values_fields command.Rank good = rank_values good
   values_fields command.Check good = check_values good
+  values_fields command.Generate good = generate_values good
 
   -- it is the one that is computed
   fields_are : (command : CommandName) (request : Request) → IsRequestOf command values request
       → fields_request command values ≡ Ok request
-  unfolding decompose_request envelope_request check_request
-  fields_are command.Decompose (Decompose table mass peaks allowed alphabet adduct rules limit after) is =
+  unfolding decompose_request envelope_request rank_request check_request generate_request
+  fields_are command.Decompose (Decompose table mass peaks allowed alphabet adduct rules limit after json) is =
       λ i. or_fault Words (is.0 i) >>= λ table. or_fault Words (is.3 i) >>= λ allowed. or_fault Words (is.4 i)
       >>= λ alphabet. or_fault Words (is.5 i) >>= λ adduct. or_fault Words (is.6 i) >>= λ rules.
-      Ok (Decompose table (sym is.1 i) (sym is.2 i) allowed alphabet adduct rules (sym is.7 i) (sym is.8 i))
+      Ok (Decompose table (sym is.1 i) (sym is.2 i) allowed alphabet adduct rules (sym is.7 i) (sym is.8 i)
+      (sym is.9 i))
   fields_are command.Decompose _ is = absurd is
-  fields_are command.Envelope (Envelope table tracer adduct formula coverage certificate) is =
+  fields_are command.Envelope (Envelope table tracer adduct formula coverage certificate json) is =
       λ i. or_fault Words (is.0 i) >>= λ table. or_fault Words (is.2 i) >>= λ adduct. or_fault Words (is.3 i)
-      >>= λ formula. or_fault Words (is.4 i) >>= λ coverage.
-      Ok (Envelope table (sym is.1 i) adduct formula coverage (sym is.5 i))
+      >>= λ formula. or_fault Words (option_or (is.4 i) None) >>= λ coverage.
+      Ok (Envelope table (sym is.1 i) adduct formula coverage (sym is.5 i) (sym is.6 i))
   fields_are command.Envelope _ is = absurd is
+  fields_are command.Rank (Rank table tracer peaks allowed alphabet adduct rules coverage peak turn turns json) is =
+      λ i. or_fault Words (is.0 i) >>= λ table. or_fault Words (is.2 i) >>= λ peaks. or_fault Words (is.3 i)
+      >>= λ allowed. or_fault Words (is.4 i) >>= λ alphabet. or_fault Words (is.5 i) >>= λ adduct.
+      or_fault Words (is.6 i) >>= λ rules. or_fault Words (option_or (is.7 i) None) >>= λ coverage.
+      or_fault Words (is.9 i) >>= λ turn.
+      Ok (Rank table (sym is.1 i) peaks allowed alphabet adduct rules coverage (sym is.8 i) turn (sym is.10 i)
+      (sym is.11 i))
+  fields_are command.Rank _ is = absurd is
   fields_are command.Check (Check table tracer certificate) is = λ i. or_fault Words (is.0 i)
       >>= λ table. or_fault Words (is.2 i) >>= λ certificate. Ok (Check table (sym is.1 i) certificate)
   fields_are command.Check _ is = absurd is
+  fields_are command.Generate (Generate table number) is = λ i. or_fault Words (is.0 i)
+      >>= λ table. or_fault Words (option_or (is.1 i) None) >>= λ number. Ok (Generate table number)
+  fields_are command.Generate _ is = absurd is
 
   answer_is : (command : CommandName) (b : Bool) (outside : Option OptionName) → go_together command values ≡ b
       → first_outside command values ≡ outside
@@ -224,7 +280,12 @@ plain_name option.Formula = refl
 plain_name option.Coverage = refl
 plain_name option.Limit = refl
 plain_name option.After = refl
+plain_name option.Peak = refl
+plain_name option.Turn = refl
+plain_name option.Turns = refl
 plain_name option.Certificate = refl
+plain_name option.Number = refl
+plain_name option.Json = refl
 
 plain_each : (command : CommandName) (options : List OptionName)
     → AllByRecursion (λ (argument : Argument). is_plain argument.0 ≡ true)

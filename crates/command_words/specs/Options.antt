@@ -5,14 +5,14 @@ use Rattle.std.specs.Str.{bytes_eq}
 use Rattle.fixed_decimal.specs.Decimal.{decimal_within, whole_within}
 use Rattle.mass_scaling.specs.declared.limits.TheConstants.{MAX_MZ, MAX_DA, MAX_PPM}
 use Rattle.command_words.specs.declared.commands.CommandName.{CommandName}
-use Rattle.command_words.specs.declared.commands.CommandName.TheVariants.{Decompose, Envelope, Check}
+use Rattle.command_words.specs.declared.commands.CommandName.TheVariants.{Decompose, Envelope, Rank, Check, Generate}
 use Rattle.command_words.specs.declared.commands.OptionGroup.{OptionGroup}
-use Rattle.command_words.specs.declared.commands.OptionGroup.TheVariants.{Sought, Tolerance}
+use Rattle.command_words.specs.declared.commands.OptionGroup.TheVariants.{Sought, Tolerance, Form}
 use Rattle.command_words.specs.declared.options.OptionName.{OptionName}
-use Rattle.command_words.specs.declared.options.OptionName.TheVariants.{Table, Tracer, Mass, Peaks, Ppm, Da, PpmCalc, Alphabet, Adduct, Rules, Formula, Coverage, Limit, After, Certificate}
+use Rattle.command_words.specs.declared.options.OptionName.TheVariants.{Table, Tracer, Mass, Peaks, Ppm, Da, PpmCalc, Alphabet, Adduct, Rules, Formula, Coverage, Limit, After, Peak, Turn, Turns, Certificate, Number, Json}
 use Rattle.command_words.specs.declared.options.ValueKind.{ValueKind}
 use Rattle.command_words.specs.declared.options.ValueKind.TheVariants as value
-use Rattle.command_words.specs.declared.options.TheConstants.{MIN_MZ, MIN_COVERAGE, MAX_COVERAGE, MIN_LIMIT, MAX_LIMIT}
+use Rattle.command_words.specs.declared.options.TheConstants.{MIN_MZ, MIN_COVERAGE, MAX_COVERAGE, MIN_LIMIT, MAX_LIMIT, MIN_PEAK, MAX_PEAK, MIN_TURN, MAX_TURN, DEFAULT_TURN, MAX_TURNS, MAX_NUMBER}
 
 -- a word, a name or a value, as the list of its bytes
 abbrev pub Bytes : Type 0
@@ -21,7 +21,8 @@ Bytes = List ℕ
 -- the options in the order of their table
 abbrev pub option_table : List OptionName
 option_table = Table ∷ Tracer ∷ Mass ∷ Peaks ∷ Ppm ∷ Da ∷ PpmCalc ∷ Alphabet ∷ Adduct
-    ∷ Rules ∷ Formula ∷ Coverage ∷ Limit ∷ After ∷ Certificate ∷ []
+    ∷ Rules ∷ Formula ∷ Coverage ∷ Limit ∷ After ∷ Peak ∷ Turn ∷ Turns ∷ Certificate
+    ∷ Number ∷ Json ∷ []
 
 -- the name of an option, without its hyphens
 abbrev pub name : OptionName → Bytes
@@ -39,7 +40,12 @@ name Formula = codes "formula"
 name Coverage = codes "coverage"
 name Limit = codes "limit"
 name After = codes "after"
+name Peak = codes "peak"
+name Turn = codes "turn"
+name Turns = codes "turns"
 name Certificate = codes "certificate"
+name Number = codes "number"
+name Json = codes "json"
 
 -- what the value of an option is: a text, or a number in its range, in units of 10^-12 (Da), 10^-3 (ppm), 10^-18 (a
 -- coverage) or 1
@@ -58,7 +64,12 @@ kind Formula = value.Text
 kind Coverage = value.Fraction MIN_COVERAGE MAX_COVERAGE
 kind Limit = value.Whole MIN_LIMIT MAX_LIMIT
 kind After = value.Text
+kind Peak = value.Whole MIN_PEAK MAX_PEAK
+kind Turn = value.Whole MIN_TURN MAX_TURN
+kind Turns = value.Whole 0 MAX_TURNS
 kind Certificate = value.Text
+kind Number = value.Whole 0 MAX_NUMBER
+kind Json = value.Text
 
 -- the place of an option in the table, from 1
 abbrev pub number : OptionName → ℕ
@@ -76,13 +87,23 @@ number Formula = 11
 number Coverage = 12
 number Limit = 13
 number After = 14
-number Certificate = 15
+number Peak = 15
+number Turn = 16
+number Turns = 17
+number Certificate = 18
+number Number = 19
+number Json = 20
 
 -- the text that stands for an option which isn't given, if the option has one
 abbrev pub default_text : OptionName → Option Bytes
 default_text Adduct = Some (codes "M")
 default_text Rules = Some (codes "none")
 default_text _ = None
+
+-- the number that stands for an option which isn't given, if the option has one
+abbrev pub default_number : OptionName → Option ℕ
+default_number Turn = Some DEFAULT_TURN
+default_number _ = None
 
 -- the option without which this one isn't asked, if there is one
 abbrev pub companion : OptionName → Option OptionName
@@ -111,11 +132,13 @@ number_within (value.Whole low high) text = whole_within low high text
 abbrev pub command_word : CommandName → Bytes
 command_word Decompose = codes "decompose"
 command_word Envelope = codes "envelope"
+command_word Rank = codes "rank"
 command_word Check = codes "check"
+command_word Generate = codes "generate"
 
 -- the commands
 abbrev pub commands : List CommandName
-commands = Decompose ∷ Envelope ∷ Check ∷ []
+commands = Decompose ∷ Envelope ∷ Rank ∷ Check ∷ Generate ∷ []
 
 -- the command that a first word names
 abbrev pub command_of : Bytes → Option CommandName
@@ -123,30 +146,43 @@ command_of first = find (λ command. bytes_eq first (command_word command)) comm
 
 -- the options that a command has, in the order of the table
 abbrev pub options : CommandName → List OptionName
-options Decompose = Table ∷ Mass ∷ Peaks ∷ Ppm ∷ Da ∷ PpmCalc ∷ Alphabet ∷ Adduct ∷ Rules ∷ Limit ∷ After ∷ []
-options Envelope = Table ∷ Tracer ∷ Adduct ∷ Formula ∷ Coverage ∷ Certificate ∷ []
+options Decompose = Table ∷ Mass ∷ Peaks ∷ Ppm ∷ Da ∷ PpmCalc ∷ Alphabet ∷ Adduct ∷ Rules ∷ Limit ∷ After ∷ Json ∷ []
+options Envelope = Table ∷ Tracer ∷ Adduct ∷ Formula ∷ Coverage ∷ Certificate ∷ Json ∷ []
+options Rank = Table ∷ Tracer ∷ Peaks ∷ Ppm ∷ Da ∷ PpmCalc ∷ Alphabet ∷ Adduct ∷ Rules ∷ Coverage ∷ Peak ∷ Turn
+    ∷ Turns ∷ Json ∷ []
 options Check = Table ∷ Tracer ∷ Certificate ∷ []
+options Generate = Table ∷ Number ∷ []
 
 -- an option is a flag of a command, and has no value there
 abbrev pub is_flag : CommandName → OptionName → Bool
 is_flag Envelope Certificate = true
+is_flag _ Json = true
 is_flag _ _ = false
 
 -- those of them that it requires
 abbrev pub required_options : CommandName → List OptionName
 required_options Decompose = Table ∷ Alphabet ∷ []
 required_options Envelope = Table ∷ Formula ∷ Coverage ∷ []
+required_options Rank = Table ∷ Peaks ∷ Alphabet ∷ Coverage ∷ []
 required_options Check = Table ∷ Certificate ∷ []
+required_options Generate = Table ∷ Number ∷ []
 
 -- the groups of them of which it asks exactly one
 abbrev pub groups : CommandName → List OptionGroup
 groups Decompose = Sought ∷ Tolerance ∷ []
+groups Rank = Tolerance ∷ []
 groups _ = []
 
--- the options of a group: what is looked for, and how far from it
+-- the groups of them of which it asks at most one
+abbrev pub optional_groups : CommandName → List OptionGroup
+optional_groups Envelope = Form ∷ []
+optional_groups _ = []
+
+-- the options of a group: what is looked for, how far from it, and what is printed of it
 abbrev pub group_options : OptionGroup → List OptionName
 group_options Sought = Mass ∷ Peaks ∷ []
 group_options Tolerance = Ppm ∷ Da ∷ PpmCalc ∷ []
+group_options Form = Certificate ∷ Json ∷ []
 
 -- the option of this number as it is written, and nothing for a number that the table hasn't
 abbrev pub option_word : ℕ → Bytes

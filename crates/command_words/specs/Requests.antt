@@ -1,5 +1,5 @@
 -- What the words of the command line ask for.
-use Rattle.std.specs.Prelude.{ℕ, ◌≡◌, ◌≤◌, ◌⊎◌, ◌==◌, ◌&&◌, ◌||◌, not, Bool, true, false, List, [], ◌∷◌, find, is_none, is_some}
+use Rattle.std.specs.Prelude.{ℕ, ◌≡◌, ◌≤◌, ◌⊎◌, ◌==◌, ◌&&◌, ◌||◌, not, nat_le, Bool, true, false, List, [], ◌∷◌, find, is_none, is_some}
 use Rattle.std.specs.Prelude.{Option, Some, None, option_map, option_and_then, Result, Ok, Err, ⊤}
 use Rattle.std.specs.List.{count_by, list_all}
 use Rattle.std.specs.Option.{option_map_or, option_or}
@@ -7,7 +7,7 @@ use Rattle.mass_scaling.specs.Limits.{IsTolerance}
 use Rattle.mass_scaling.specs.declared.limits.TheConstants.{MAX_MZ}
 use Rattle.mass_scaling.specs.declared.tolerances.Tolerance.{Tolerance}
 use Rattle.mass_scaling.specs.declared.tolerances.Tolerance.TheVariants as tolerance
-use Rattle.command_words.specs.Options.{Bytes, command_of, companion, default_text, group_options, groups, kind, number, number_within, options, required_options}
+use Rattle.command_words.specs.Options.{Bytes, command_of, companion, default_number, default_text, group_options, groups, kind, number, number_within, optional_groups, options, required_options}
 use Rattle.command_words.specs.Uses.{Use, GivesValues, value_of}
 use Rattle.command_words.specs.declared.commands.CommandName.{CommandName}
 use Rattle.command_words.specs.declared.commands.CommandName.TheVariants as command
@@ -18,9 +18,9 @@ use Rattle.command_words.specs.declared.options.OptionName.{OptionName}
 use Rattle.command_words.specs.declared.options.OptionName.TheVariants as option
 use Rattle.command_words.specs.declared.options.ValueKind.{ValueKind}
 use Rattle.command_words.specs.declared.options.ValueKind.TheVariants.{Text}
-use Rattle.command_words.specs.declared.options.TheConstants.{MIN_MZ, MIN_COVERAGE, MAX_COVERAGE, MIN_LIMIT, MAX_LIMIT, OPTION_COUNT}
+use Rattle.command_words.specs.declared.options.TheConstants.{MIN_MZ, MIN_COVERAGE, MAX_COVERAGE, MIN_LIMIT, MAX_LIMIT, MIN_PEAK, MAX_PEAK, MIN_TURN, MAX_TURN, MAX_TURNS, MAX_NUMBER, OPTION_COUNT}
 use Rattle.command_words.specs.declared.request.Request.{Request}
-use Rattle.command_words.specs.declared.request.Request.TheVariants.{Decompose, Envelope, Check}
+use Rattle.command_words.specs.declared.request.Request.TheVariants.{Decompose, Envelope, Rank, Check, Generate}
 
 -- the value that each option is given, if it is
 abbrev pub Values : Type 0
@@ -29,6 +29,10 @@ Values = OptionName → Option Bytes
 -- the number that an option is given, in its unit and within its range
 abbrev pub number_of : Values → OptionName → Option ℕ
 number_of values option = option_and_then (number_within (kind option)) (values option)
+
+-- the number that an option is given, or else its default
+abbrev pub number_or_default : Values → OptionName → Option ℕ
+number_or_default values option = option_or (number_of values option) (default_number option)
 
 -- the text that an option is given, or else its default
 abbrev pub text_of : Values → OptionName → Option Bytes
@@ -42,20 +46,30 @@ tolerance_of values = option_or (option_map tolerance.Ppm (number_of values opti
 
 -- ---- which options go together
 
--- exactly one option of a group is given
+-- how many options of a group are given
+abbrev pub given_count : Values → OptionGroup → ℕ
+given_count values group = count_by (λ option. is_some (values option)) (group_options group)
+
+-- exactly one is
 abbrev pub has_one : Values → OptionGroup → Bool
-has_one values group = count_by (λ option. is_some (values option)) (group_options group) == 1
+has_one values group = given_count values group == 1
+
+-- at most one is
+abbrev pub has_one_at_most : Values → OptionGroup → Bool
+has_one_at_most values group = nat_le (given_count values group) 1
 
 -- an option isn't given, or is and the one too without which it isn't asked
 abbrev pub has_companion : Values → OptionName → Bool
 has_companion values option =
     option_map_or (λ other. not (is_some (values option)) || is_some (values other)) (companion option) true
 
--- each option that the command requires is given, exactly one of each of its groups, and none without the one that it
--- goes with
+-- each option that the command requires is given, exactly one of each of its groups, at most one of each of its
+-- optional groups, and none without the one that it goes with
 abbrev pub go_together : CommandName → Values → Bool
 go_together command values = list_all (λ option. is_some (values option)) (required_options command)
-    && (list_all (has_one values) (groups command) && list_all (has_companion values) (options command))
+    && (list_all (has_one values) (groups command)
+    && (list_all (has_one_at_most values) (optional_groups command)
+    && list_all (has_companion values) (options command)))
 
 -- ---- which values are outside their ranges
 
@@ -77,18 +91,28 @@ first_outside command values = find (has_value_outside values) (options command)
 -- each field of the request is what its option is given, in its unit, or the option's default; that of a flag says
 -- whether the flag is given
 abbrev pub IsRequestOf : CommandName → Values → Request → Type 0
-IsRequestOf command.Decompose values (Decompose table mass peaks allowed alphabet adduct rules limit after) =
+IsRequestOf command.Decompose values (Decompose table mass peaks allowed alphabet adduct rules limit after json) =
     (text_of values option.Table ≡ Some table) × (mass ≡ number_of values option.Mass)
     × (peaks ≡ values option.Peaks) × (tolerance_of values ≡ Some allowed)
     × (text_of values option.Alphabet ≡ Some alphabet) × (text_of values option.Adduct ≡ Some adduct)
     × (text_of values option.Rules ≡ Some rules) × (limit ≡ number_of values option.Limit)
-    × (after ≡ values option.After)
-IsRequestOf command.Envelope values (Envelope table tracer adduct formula coverage certificate) =
+    × (after ≡ values option.After) × (json ≡ is_some (values option.Json))
+IsRequestOf command.Envelope values (Envelope table tracer adduct formula coverage certificate json) =
     (text_of values option.Table ≡ Some table) × (tracer ≡ values option.Tracer)
     × (text_of values option.Adduct ≡ Some adduct) × (text_of values option.Formula ≡ Some formula)
     × (number_of values option.Coverage ≡ Some coverage) × (certificate ≡ is_some (values option.Certificate))
+    × (json ≡ is_some (values option.Json))
+IsRequestOf command.Rank values (Rank table tracer peaks allowed alphabet adduct rules coverage peak turn turns json) =
+    (text_of values option.Table ≡ Some table) × (tracer ≡ values option.Tracer)
+    × (text_of values option.Peaks ≡ Some peaks) × (tolerance_of values ≡ Some allowed)
+    × (text_of values option.Alphabet ≡ Some alphabet) × (text_of values option.Adduct ≡ Some adduct)
+    × (text_of values option.Rules ≡ Some rules) × (number_of values option.Coverage ≡ Some coverage)
+    × (peak ≡ number_of values option.Peak) × (number_or_default values option.Turn ≡ Some turn)
+    × (turns ≡ number_of values option.Turns) × (json ≡ is_some (values option.Json))
 IsRequestOf command.Check values (Check table tracer certificate) = (text_of values option.Table ≡ Some table)
     × (tracer ≡ values option.Tracer) × (text_of values option.Certificate ≡ Some certificate)
+IsRequestOf command.Generate values (Generate table number) = (text_of values option.Table ≡ Some table)
+    × (number_of values option.Number ≡ Some number)
 IsRequestOf _ values _ = ⊥
 
 -- What the values of a command's options ask for: Words where the options that are given don't go together; or, where
@@ -133,12 +157,16 @@ GoWithMass None limit after = (limit ≡ None) × (after ≡ None)
 
 -- the numbers of a request are in their ranges: masses in 10^-12 Da, coverages in 10^-18
 abbrev pub HasRanges : Request → Type 0
-HasRanges (Decompose table mass peaks allowed alphabet adduct rules limit after) = HasMassOrPeaks mass peaks
+HasRanges (Decompose table mass peaks allowed alphabet adduct rules limit after json) = HasMassOrPeaks mass peaks
     × IsWithin MIN_MZ MAX_MZ mass × IsTolerance allowed × IsWithin MIN_LIMIT MAX_LIMIT limit
     × GoWithMass mass limit after
-HasRanges (Envelope table tracer adduct formula coverage certificate) = (MIN_COVERAGE ≤ coverage)
+HasRanges (Envelope table tracer adduct formula coverage certificate json) = (MIN_COVERAGE ≤ coverage)
     × (coverage ≤ MAX_COVERAGE)
+HasRanges (Rank table tracer peaks allowed alphabet adduct rules coverage peak turn turns json) = IsTolerance allowed
+    × (MIN_COVERAGE ≤ coverage) × (coverage ≤ MAX_COVERAGE) × IsWithin MIN_PEAK MAX_PEAK peak
+    × (MIN_TURN ≤ turn) × (turn ≤ MAX_TURN) × IsWithin 0 MAX_TURNS turns
 HasRanges (Check table tracer certificate) = ⊤
+HasRanges (Generate table number) = number ≤ MAX_NUMBER
 
 -- the option that a fault numbers is one of the table
 abbrev pub IsOfTable : WordsFault → Type 0

@@ -7,7 +7,7 @@ use Rattle.clap.specs.declared.parser.matches.Found.{Found}
 use Rattle.reader_answers.specs.Answers.{or_fault, ◌>>=◌}
 use Rattle.command_words.specs.ClapCommands.{given_in}
 use Rattle.command_words.specs.Options.{Bytes, command_of, name, number}
-use Rattle.command_words.specs.Requests.{Values, first_outside, go_together, number_of, text_of, tolerance_of}
+use Rattle.command_words.specs.Requests.{Values, first_outside, go_together, number_of, number_or_default, text_of, tolerance_of}
 use Rattle.command_words.specs.Uses.{Argument, Use, arguments, flag_value, has_use, is_flag_of, is_value, value_of}
 use Rattle.command_words.specs.declared.commands.CommandName.{CommandName}
 use Rattle.command_words.specs.declared.commands.CommandName.TheVariants as command
@@ -16,7 +16,7 @@ use Rattle.command_words.specs.declared.fault.WordsFault.TheVariants.{Words, Val
 use Rattle.command_words.specs.declared.options.OptionName.{OptionName}
 use Rattle.command_words.specs.declared.options.OptionName.TheVariants as option
 use Rattle.command_words.specs.declared.request.Request.{Request}
-use Rattle.command_words.specs.declared.request.Request.TheVariants.{Decompose, Envelope, Check}
+use Rattle.command_words.specs.declared.request.Request.TheVariants.{Decompose, Envelope, Rank, Check, Generate}
 
 abbrev pub is_memory : WordsFault → Bool
 is_memory Memory = true
@@ -77,29 +77,44 @@ abbrev pub required_text : Values → OptionName → Result Bytes WordsFault
 required_text values option = or_fault Words (text_of values option)
 
 abbrev pub required_number : Values → OptionName → Result ℕ WordsFault
-required_number values option = or_fault Words (number_of values option)
+required_number values option = or_fault Words (number_or_default values option)
 
 unfoldable pub decompose_request : Values → Result Request WordsFault
 decompose_request values = required_text values option.Table >>= λ table. or_fault Words (tolerance_of values)
     >>= λ allowed. required_text values option.Alphabet >>= λ alphabet. required_text values option.Adduct
     >>= λ adduct. required_text values option.Rules >>= λ rules.
     Ok (Decompose table (number_of values option.Mass) (values option.Peaks) allowed alphabet adduct rules
-    (number_of values option.Limit) (values option.After))
+    (number_of values option.Limit) (values option.After) (is_some (values option.Json)))
 
 unfoldable pub envelope_request : Values → Result Request WordsFault
 envelope_request values = required_text values option.Table >>= λ table. required_text values option.Adduct
     >>= λ adduct. required_text values option.Formula >>= λ formula. required_number values option.Coverage
-    >>= λ coverage. Ok (Envelope table (values option.Tracer) adduct formula coverage (is_some (values option.Certificate)))
+    >>= λ coverage. Ok (Envelope table (values option.Tracer) adduct formula coverage (is_some (values option.Certificate))
+    (is_some (values option.Json)))
+
+unfoldable pub rank_request : Values → Result Request WordsFault
+rank_request values = required_text values option.Table >>= λ table. required_text values option.Peaks
+    >>= λ peaks. or_fault Words (tolerance_of values) >>= λ allowed. required_text values option.Alphabet
+    >>= λ alphabet. required_text values option.Adduct >>= λ adduct. required_text values option.Rules
+    >>= λ rules. required_number values option.Coverage >>= λ coverage. required_number values option.Turn
+    >>= λ turn. Ok (Rank table (values option.Tracer) peaks allowed alphabet adduct rules coverage
+    (number_of values option.Peak) turn (number_of values option.Turns) (is_some (values option.Json)))
 
 unfoldable pub check_request : Values → Result Request WordsFault
 check_request values = required_text values option.Table >>= λ table. required_text values option.Certificate
     >>= λ certificate. Ok (Check table (values option.Tracer) certificate)
 
+unfoldable pub generate_request : Values → Result Request WordsFault
+generate_request values = required_text values option.Table >>= λ table. required_number values option.Number
+    >>= λ number. Ok (Generate table number)
+
 -- the request of values that go together and are in their ranges
 abbrev pub fields_request : CommandName → Values → Result Request WordsFault
 fields_request command.Decompose values = decompose_request values
 fields_request command.Envelope values = envelope_request values
+fields_request command.Rank values = rank_request values
 fields_request command.Check values = check_request values
+fields_request command.Generate values = generate_request values
 
 -- the answer by whether options go together, and by the first whose value is outside its range
 abbrev pub answer_by : Bool → Option OptionName → Result Request WordsFault → Result Request WordsFault

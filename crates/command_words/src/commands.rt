@@ -1,6 +1,6 @@
 //! The commands, the options that each has, and which of them are asked together.
 ghost use Rattle.std.specs.Prelude.{◌≡◌, ◌==◌, length, map, option_map, string_bytes};
-ghost use Rattle.command_words.specs.Options.{command_word, command_of, group_options, groups, is_flag, options, required_options};
+ghost use Rattle.command_words.specs.Options.{command_word, command_of, group_options, groups, is_flag, optional_groups, options, required_options};
 
 use crate::options::OptionName;
 
@@ -9,19 +9,23 @@ use crate::options::OptionName;
 pub(crate) enum CommandName {
     Decompose,
     Envelope,
+    Rank,
     Check,
+    Generate,
 }
 
-/// Options of which exactly one is asked.
+/// Options of which only one is asked.
 #[derive(Clone, Copy, Debug, PartialEq, Eq)]
 pub(crate) enum OptionGroup {
     /// What is looked for: one mass, or the peaks of a file.
     Sought,
     /// How far from it.
     Tolerance,
+    /// What is printed in the place of the report as text.
+    Form,
 }
 
-static DECOMPOSE_OPTIONS: [OptionName; 11] = [
+static DECOMPOSE_OPTIONS: [OptionName; 12] = [
     OptionName::Table,
     OptionName::Mass,
     OptionName::Peaks,
@@ -33,15 +37,34 @@ static DECOMPOSE_OPTIONS: [OptionName; 11] = [
     OptionName::Rules,
     OptionName::Limit,
     OptionName::After,
+    OptionName::Json,
 ];
 
-static ENVELOPE_OPTIONS: [OptionName; 6] = [
+static ENVELOPE_OPTIONS: [OptionName; 7] = [
     OptionName::Table,
     OptionName::Tracer,
     OptionName::Adduct,
     OptionName::Formula,
     OptionName::Coverage,
     OptionName::Certificate,
+    OptionName::Json,
+];
+
+static RANK_OPTIONS: [OptionName; 14] = [
+    OptionName::Table,
+    OptionName::Tracer,
+    OptionName::Peaks,
+    OptionName::Ppm,
+    OptionName::Da,
+    OptionName::PpmCalc,
+    OptionName::Alphabet,
+    OptionName::Adduct,
+    OptionName::Rules,
+    OptionName::Coverage,
+    OptionName::Peak,
+    OptionName::Turn,
+    OptionName::Turns,
+    OptionName::Json,
 ];
 
 static CHECK_OPTIONS: [OptionName; 3] = [
@@ -49,6 +72,8 @@ static CHECK_OPTIONS: [OptionName; 3] = [
     OptionName::Tracer,
     OptionName::Certificate,
 ];
+
+static GENERATE_OPTIONS: [OptionName; 2] = [OptionName::Table, OptionName::Number];
 
 static DECOMPOSE_REQUIRED: [OptionName; 2] = [OptionName::Table, OptionName::Alphabet];
 
@@ -58,13 +83,28 @@ static ENVELOPE_REQUIRED: [OptionName; 3] = [
     OptionName::Coverage,
 ];
 
+static RANK_REQUIRED: [OptionName; 4] = [
+    OptionName::Table,
+    OptionName::Peaks,
+    OptionName::Alphabet,
+    OptionName::Coverage,
+];
+
 static CHECK_REQUIRED: [OptionName; 2] = [OptionName::Table, OptionName::Certificate];
 
+static GENERATE_REQUIRED: [OptionName; 2] = [OptionName::Table, OptionName::Number];
+
 static DECOMPOSE_GROUPS: [OptionGroup; 2] = [OptionGroup::Sought, OptionGroup::Tolerance];
+
+static RANK_GROUPS: [OptionGroup; 1] = [OptionGroup::Tolerance];
+
+static ENVELOPE_OPTIONAL_GROUPS: [OptionGroup; 1] = [OptionGroup::Form];
 
 static SOUGHT_OPTIONS: [OptionName; 2] = [OptionName::Mass, OptionName::Peaks];
 
 static TOLERANCE_OPTIONS: [OptionName; 3] = [OptionName::Ppm, OptionName::Da, OptionName::PpmCalc];
+
+static FORM_OPTIONS: [OptionName; 2] = [OptionName::Certificate, OptionName::Json];
 
 impl CommandName {
     /// The command that a first word names.
@@ -74,7 +114,9 @@ impl CommandName {
         match word.as_str() {
             "decompose" => Some(CommandName::Decompose),
             "envelope" => Some(CommandName::Envelope),
+            "rank" => Some(CommandName::Rank),
             "check" => Some(CommandName::Check),
+            "generate" => Some(CommandName::Generate),
             _ => None,
         }
     }
@@ -86,7 +128,9 @@ impl CommandName {
         match self {
             CommandName::Decompose => "decompose",
             CommandName::Envelope => "envelope",
+            CommandName::Rank => "rank",
             CommandName::Check => "check",
+            CommandName::Generate => "generate",
         }
     }
 
@@ -97,7 +141,9 @@ impl CommandName {
         match self {
             CommandName::Decompose => DECOMPOSE_OPTIONS.as_slice(),
             CommandName::Envelope => ENVELOPE_OPTIONS.as_slice(),
+            CommandName::Rank => RANK_OPTIONS.as_slice(),
             CommandName::Check => CHECK_OPTIONS.as_slice(),
+            CommandName::Generate => GENERATE_OPTIONS.as_slice(),
         }
     }
 
@@ -107,7 +153,7 @@ impl CommandName {
     {
         matches!(
             (self, option),
-            (CommandName::Envelope, OptionName::Certificate)
+            (CommandName::Envelope, OptionName::Certificate) | (_, OptionName::Json)
         )
     }
 
@@ -118,7 +164,9 @@ impl CommandName {
         match self {
             CommandName::Decompose => DECOMPOSE_REQUIRED.as_slice(),
             CommandName::Envelope => ENVELOPE_REQUIRED.as_slice(),
+            CommandName::Rank => RANK_REQUIRED.as_slice(),
             CommandName::Check => CHECK_REQUIRED.as_slice(),
+            CommandName::Generate => GENERATE_REQUIRED.as_slice(),
         }
     }
 
@@ -128,6 +176,17 @@ impl CommandName {
     {
         match self {
             CommandName::Decompose => DECOMPOSE_GROUPS.as_slice(),
+            CommandName::Rank => RANK_GROUPS.as_slice(),
+            _ => &[],
+        }
+    }
+
+    /// The groups of them of which it asks at most one.
+    pub(crate) fn optional_groups(self) -> &'static [OptionGroup]
+        ensures { result.now ≡ optional_groups self }
+    {
+        match self {
+            CommandName::Envelope => ENVELOPE_OPTIONAL_GROUPS.as_slice(),
             _ => &[],
         }
     }
@@ -141,6 +200,7 @@ impl OptionGroup {
         match self {
             OptionGroup::Sought => SOUGHT_OPTIONS.as_slice(),
             OptionGroup::Tolerance => TOLERANCE_OPTIONS.as_slice(),
+            OptionGroup::Form => FORM_OPTIONS.as_slice(),
         }
     }
 }

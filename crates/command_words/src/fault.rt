@@ -12,7 +12,8 @@ use thiserror::Error;
 pub enum WordsFault {
     /// No command, or none that exists; or the words behind it don't give options of the command their values,
     /// each at most once; or an option that the command requires is absent; or of options of which exactly one is
-    /// asked there is none or more than one; or an option is without the one that it goes with.
+    /// asked there is none or more than one; or two are there that exclude each other; or an option is without the
+    /// one that it goes with.
     #[error("words")]
     Words,
     /// A value is outside the range of its option. Options are numbered from 1 in the order of the table of

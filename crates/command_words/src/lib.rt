@@ -21,7 +21,8 @@ mod word;
 
 pub use fault::WordsFault;
 pub use options::{
-    MAX_COVERAGE, MAX_LIMIT, MIN_COVERAGE, MIN_LIMIT, MIN_MZ, OPTION_COUNT, option_name,
+    DEFAULT_TURN, MAX_COVERAGE, MAX_LIMIT, MAX_NUMBER, MAX_PEAK, MAX_TURN, MAX_TURNS, MIN_COVERAGE,
+    MIN_LIMIT, MIN_MZ, MIN_PEAK, MIN_TURN, OPTION_COUNT, option_name,
 };
 pub use reading::request_of;
 pub use request::Request;

@@ -1,6 +1,6 @@
 //! The table of options.
 ghost use Rattle.std.specs.Prelude.{◌≡◌, ◌==◌, find, option_map};
-ghost use Rattle.command_words.specs.Options.{companion, default_text, name, word, kind, number, option_table, option_word};
+ghost use Rattle.command_words.specs.Options.{companion, default_number, default_text, name, word, kind, number, option_table, option_word};
 
 use mass_scaling::{MAX_DA, MAX_MZ, MAX_PPM};
 
@@ -19,8 +19,29 @@ pub const MIN_LIMIT: u64 = 1;
 /// The greatest number of candidates that can be asked for.
 pub const MAX_LIMIT: u64 = 1_048_576;
 
+/// The least number of a peak.
+pub const MIN_PEAK: u64 = 1;
+
+/// The greatest number of a peak.
+pub const MAX_PEAK: u64 = 10_000;
+
+/// The least allowance of a turn.
+pub const MIN_TURN: u64 = 1;
+
+/// The greatest allowance of a turn.
+pub const MAX_TURN: u64 = 1_048_576;
+
+/// The allowance of a turn where none is given.
+pub const DEFAULT_TURN: u64 = 64;
+
+/// The most turns.
+pub const MAX_TURNS: u64 = 1_000_000;
+
+/// The greatest number that a run of the generator can begin with: 2^31 - 1.
+pub const MAX_NUMBER: u64 = 2_147_483_647;
+
 /// How many options there are; they are numbered from 1.
-pub const OPTION_COUNT: u32 = 15;
+pub const OPTION_COUNT: u32 = 20;
 
 /// The options, in the order of their table.
 #[derive(Clone, Copy, Debug, PartialEq, Eq)]
@@ -39,7 +60,12 @@ pub(crate) enum OptionName {
     Coverage,
     Limit,
     After,
+    Peak,
+    Turn,
+    Turns,
     Certificate,
+    Number,
+    Json,
 }
 
 /// What the value of an option is, with the least and the greatest number.
@@ -100,6 +126,26 @@ const LIMIT: ValueKind = ValueKind::Whole {
     high: MAX_LIMIT,
 };
 
+const PEAK: ValueKind = ValueKind::Whole {
+    low: MIN_PEAK,
+    high: MAX_PEAK,
+};
+
+const TURN: ValueKind = ValueKind::Whole {
+    low: MIN_TURN,
+    high: MAX_TURN,
+};
+
+const TURNS: ValueKind = ValueKind::Whole {
+    low: 0,
+    high: MAX_TURNS,
+};
+
+const NUMBER: ValueKind = ValueKind::Whole {
+    low: 0,
+    high: MAX_NUMBER,
+};
+
 const OPTIONS: [OptionName; OPTION_COUNT as usize] = [
     OptionName::Table,
     OptionName::Tracer,
@@ -115,7 +161,12 @@ const OPTIONS: [OptionName; OPTION_COUNT as usize] = [
     OptionName::Coverage,
     OptionName::Limit,
     OptionName::After,
+    OptionName::Peak,
+    OptionName::Turn,
+    OptionName::Turns,
     OptionName::Certificate,
+    OptionName::Number,
+    OptionName::Json,
 ];
 
 impl OptionName {
@@ -138,9 +189,14 @@ impl OptionName {
             OptionName::Coverage => OptionRow::of("--coverage", "coverage", COVERAGE),
             OptionName::Limit => OptionRow::of("--limit", "limit", LIMIT),
             OptionName::After => OptionRow::of("--after", "after", ValueKind::Text),
+            OptionName::Peak => OptionRow::of("--peak", "peak", PEAK),
+            OptionName::Turn => OptionRow::of("--turn", "turn", TURN),
+            OptionName::Turns => OptionRow::of("--turns", "turns", TURNS),
             OptionName::Certificate => {
                 OptionRow::of("--certificate", "certificate", ValueKind::Text)
             }
+            OptionName::Number => OptionRow::of("--number", "number", NUMBER),
+            OptionName::Json => OptionRow::of("--json", "json", ValueKind::Text),
         }
     }
 
@@ -165,6 +221,16 @@ impl OptionName {
         match self {
             OptionName::Adduct => Some("M"),
             OptionName::Rules => Some("none"),
+            _ => None,
+        }
+    }
+
+    /// The number that stands for an option which isn't given.
+    pub(crate) fn default_number(self) -> Option<u64>
+        ensures { result ≡ default_number self }
+    {
+        match self {
+            OptionName::Turn => Some(DEFAULT_TURN),
             _ => None,
         }
     }

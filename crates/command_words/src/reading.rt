@@ -4,7 +4,7 @@ ghost use Rattle.std.specs.List.{list_all};
 ghost use Rattle.reader_answers.specs.Answers.{Gives};
 ghost use Rattle.clap.specs.Words.{found_of};
 ghost use Rattle.command_words.specs.Requests.{Asks, HasRanges, IsOfTable};
-ghost use Rattle.command_words.specs.WordReading.{check_request, decompose_request, envelope_request, is_memory, is_readable, matched, request_of, values_request};
+ghost use Rattle.command_words.specs.WordReading.{check_request, decompose_request, envelope_request, generate_request, rank_request, is_memory, is_readable, matched, request_of, values_request};
 ghost use Rattle.command_words.specs.declared.fault.WordsFault.{WordsFault};
 ghost use Rattle.command_words.specs.declared.request.Request.{Request};
 
@@ -21,11 +21,11 @@ use clap::ArgMatches;
 use std::alloc::Global;
 
 /// Reads the words behind the program's name as a request. The first names a command; the others give each option
-/// of it that they name its value, as `--name value` or `--name=value`, and flags as `--name`, in any order. The answer is
-/// [`WordsFault::Words`] where they don't, or where the options that they give don't go together, and else
+/// of it that they name its value, as `--name value` or `--name=value`, and flags as `--name`, in any order. The
+/// answer is [`WordsFault::Words`] where they don't, or where the options that they give don't go together, and else
 /// [`WordsFault::Value`] of the first option in the order of the table whose value is outside its range. Options go
-/// together where each is given that the command requires, exactly one of those of which one is asked, and none
-/// without the one that it goes with.
+/// together where each is given that the command requires, exactly one of those of which one is asked, at most one of
+/// those that exclude each other, and none without the one that it goes with.
 pub fn request_of(alloc: Global, words: &Vec<String>) -> Result<Request, WordsFault>
     // The answer, unless it is want of memory.
     ensures gives { Gives is_memory result (request_of (map string_bytes words.now.items)) }
@@ -83,7 +83,9 @@ fn matched_request(
     match command {
         CommandName::Decompose => decompose_request(alloc, matches),
         CommandName::Envelope => envelope_request(alloc, matches),
+        CommandName::Rank => rank_request(alloc, matches),
         CommandName::Check => check_request(alloc, matches),
+        CommandName::Generate => generate_request(alloc, matches),
     }
 }
 
@@ -102,6 +104,7 @@ fn decompose_request(alloc: Global, matches: &ArgMatches<'_>) -> Result<Request,
         rules: required_text(alloc, matches, OptionName::Rules)?,
         limit: number_of(matches, OptionName::Limit),
         after: given_text(alloc, matches, OptionName::After)?,
+        json: is_given(matches, OptionName::Json),
     })
 }
 
@@ -117,6 +120,28 @@ fn envelope_request(alloc: Global, matches: &ArgMatches<'_>) -> Result<Request, 
         formula: required_text(alloc, matches, OptionName::Formula)?,
         coverage: required_number(matches, OptionName::Coverage)?,
         certificate: is_given(matches, OptionName::Certificate),
+        json: is_given(matches, OptionName::Json),
+    })
+}
+
+/// The request that the values of `rank` make.
+#[tactic(auto, unfolding(crate::specs::WordReading::rank_request))]
+fn rank_request(alloc: Global, matches: &ArgMatches<'_>) -> Result<Request, WordsFault>
+    ensures { Gives is_memory result (rank_request (matched (found_of matches.now))) }
+{
+    Ok(Request::Rank {
+        table: required_text(alloc, matches, OptionName::Table)?,
+        tracer: given_text(alloc, matches, OptionName::Tracer)?,
+        peaks: required_text(alloc, matches, OptionName::Peaks)?,
+        tolerance: tolerance_of(matches).ok_or(WordsFault::Words)?,
+        alphabet: required_text(alloc, matches, OptionName::Alphabet)?,
+        adduct: required_text(alloc, matches, OptionName::Adduct)?,
+        rules: required_text(alloc, matches, OptionName::Rules)?,
+        coverage: required_number(matches, OptionName::Coverage)?,
+        peak: number_of(matches, OptionName::Peak),
+        turn: required_number(matches, OptionName::Turn)?,
+        turns: number_of(matches, OptionName::Turns),
+        json: is_given(matches, OptionName::Json),
     })
 }
 
@@ -129,5 +154,16 @@ fn check_request(alloc: Global, matches: &ArgMatches<'_>) -> Result<Request, Wor
         table: required_text(alloc, matches, OptionName::Table)?,
         tracer: given_text(alloc, matches, OptionName::Tracer)?,
         certificate: required_text(alloc, matches, OptionName::Certificate)?,
+    })
+}
+
+/// The request that the values of `generate` make.
+#[tactic(auto, unfolding(crate::specs::WordReading::generate_request))]
+fn generate_request(alloc: Global, matches: &ArgMatches<'_>) -> Result<Request, WordsFault>
+    ensures { Gives is_memory result (generate_request (matched (found_of matches.now))) }
+{
+    Ok(Request::Generate {
+        table: required_text(alloc, matches, OptionName::Table)?,
+        number: required_number(matches, OptionName::Number)?,
     })
 }

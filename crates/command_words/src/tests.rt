@@ -36,8 +36,9 @@ fn shown(rt: &impl Abort, alloc: Global, request: &Request) -> String {
             rules,
             limit,
             after,
+            json,
         } => format!(in alloc;
-            "{} {mass:?} {} {tolerance:?} {} {} {} {limit:?} {}",
+            "{} {mass:?} {} {tolerance:?} {} {} {} {limit:?} {} {json}",
             table.text(),
             text_or_dash(peaks),
             alphabet.text(),
@@ -52,13 +53,37 @@ fn shown(rt: &impl Abort, alloc: Global, request: &Request) -> String {
             formula,
             coverage,
             certificate,
+            json,
         } => format!(in alloc;
-            "{} {} {} {} {coverage} {certificate}",
+            "{} {} {} {} {coverage} {certificate} {json}",
             table.text(),
             text_or_dash(tracer),
             adduct.text(),
             formula.text()
         ),
+        Request::Rank {
+            table,
+            tracer,
+            peaks,
+            tolerance,
+            alphabet,
+            adduct,
+            rules,
+            coverage,
+            peak,
+            turn,
+            turns,
+            json,
+        } => format!(in alloc;
+            "{} {} {} {tolerance:?} {} {} {} {coverage} {peak:?} {turn} {turns:?} {json}",
+            table.text(),
+            text_or_dash(tracer),
+            peaks.text(),
+            alphabet.text(),
+            adduct.text(),
+            rules.text()
+        ),
+        Request::Generate { table, number } => format!(in alloc; "{} {number}", table.text()),
         Request::Check {
             table,
             tracer,
@@ -83,7 +108,7 @@ fn asks(rt: &impl Abort, alloc: Global, words: &str, fields: &str) -> bool {
 
 #[test]
 fn the_options_of_decompose_stand_in_each_order_and_form(rt: HostRuntime) {
-    let fields = "t.csv Some(12000000000000) - Da { units: 500000000000 } CHO M none None -";
+    let fields = "t.csv Some(12000000000000) - Da { units: 500000000000 } CHO M none None - false";
     let rows = [
         "decompose --table t.csv --mass 12 --da 0.5 --alphabet CHO",
         "decompose --alphabet CHO --da 0.5 --mass 12 --table t.csv",
@@ -101,28 +126,49 @@ fn each_option_gives_its_field_and_defaults_the_others(rt: HostRuntime) {
     let rows = [
         (
             "decompose --table t --peaks p.csv --ppm 2 --alphabet C --adduct [M+H]+ --rules golden",
-            "t None p.csv Ppm { thousandths: 2000 } C [M+H]+ golden None -",
+            "t None p.csv Ppm { thousandths: 2000 } C [M+H]+ golden None - false",
         ),
         (
             "decompose --table t --mass 1 --ppm-calc 0.001 --alphabet C --limit 7 --after C2",
-            "t Some(1000000000000) - PpmCalculated { thousandths: 1 } C M none Some(7) C2",
+            "t Some(1000000000000) - PpmCalculated { thousandths: 1 } C M none Some(7) C2 false",
         ),
         (
             "envelope --coverage=0.9 --formula C6H12O6 --table t.csv",
-            "t.csv - M C6H12O6 900000000000000000 false",
+            "t.csv - M C6H12O6 900000000000000000 false false",
         ),
         (
             "envelope --tracer r.csv --adduct [M-H]- --coverage=0.9 --formula C6H12O6 --table t.csv",
-            "t.csv r.csv [M-H]- C6H12O6 900000000000000000 false",
+            "t.csv r.csv [M-H]- C6H12O6 900000000000000000 false false",
         ),
         (
             "envelope --certificate --coverage=0.9 --formula C6H12O6 --table t.csv",
-            "t.csv - M C6H12O6 900000000000000000 true",
+            "t.csv - M C6H12O6 900000000000000000 true false",
         ),
         (
             "envelope --coverage 0.9 --formula true --table t.csv --certificate",
-            "t.csv - M true 900000000000000000 true",
+            "t.csv - M true 900000000000000000 true false",
         ),
+        (
+            "rank --table t --peaks p --ppm 2 --alphabet CH --coverage 0.9",
+            "t - p Ppm { thousandths: 2000 } CH M none 900000000000000000 None 64 None false",
+        ),
+        (
+            "rank --turns 0 --turn 7 --peak 3 --table t --tracer=r --peaks p --da 1 --alphabet C --coverage=0.5 --rules=g",
+            "t r p Da { units: 1000000000000 } C M g 500000000000000000 Some(3) 7 Some(0) false",
+        ),
+        (
+            "decompose --json --table t --mass 1 --da 0 --alphabet C",
+            "t Some(1000000000000) - Da { units: 0 } C M none None - true",
+        ),
+        (
+            "envelope --coverage=0.9 --formula C --table t --json",
+            "t - M C 900000000000000000 false true",
+        ),
+        (
+            "rank --table t --peaks p --ppm 2 --alphabet C --json --coverage 0.9",
+            "t - p Ppm { thousandths: 2000 } C M none 900000000000000000 None 64 None true",
+        ),
+        ("generate --table t --number 1", "t 1"),
         ("check --table t --certificate c.txt", "t - c.txt"),
         (
             "check --certificate=true --tracer r.csv --table t",
@@ -139,15 +185,15 @@ fn a_value_may_hold_an_equals_sign_and_is_cut_at_the_first(rt: HostRuntime) {
     let rows = [
         (
             "envelope --table=a=b --formula X --coverage 0.5",
-            "a=b - M X 500000000000000000 false",
+            "a=b - M X 500000000000000000 false false",
         ),
         (
             "envelope --table a=b --formula =X= --coverage 0.5",
-            "a=b - M =X= 500000000000000000 false",
+            "a=b - M =X= 500000000000000000 false false",
         ),
         (
             "envelope --table==a --formula=X-y --coverage=0.5",
-            "=a - M X-y 500000000000000000 false",
+            "=a - M X-y 500000000000000000 false false",
         ),
     ];
     for (words, fields) in rows {
@@ -160,6 +206,11 @@ fn words_that_make_no_request_are_refused(rt: HostRuntime) {
     let rows = [
         "",
         "rank",
+        "ranks --table t --peaks p --ppm 2 --alphabet CH --coverage 0.9",
+        "rank --table t --peaks p --ppm 2 --alphabet CH --coverage 0.9 --mass 1",
+        "rank --table t --peaks p --ppm 2 --alphabet CH --coverage 0.9 --limit 1",
+        "generate --table t --number -1",
+        "generate --table t --number 1 --ppm 2",
         "Decompose --table t --mass 1 --da 0 --alphabet C",
         "decompose",
         "decompose --table t --mass 1 --da 0",
@@ -200,6 +251,10 @@ fn words_that_make_no_request_are_refused(rt: HostRuntime) {
         "envelope --table t --formula --certificate --coverage 0.5",
         "check --table t --certificate",
         "check --table t --certificate c --coverage 0.5",
+        "check --table t --certificate c --json",
+        "generate --table t --number 1 --json",
+        "rank --table t --peaks p --ppm 2 --alphabet CH --coverage 0.9 --json=true",
+        "decompose --table t --mass 1 --da 0 --alphabet C --json --json",
     ];
     for row in rows {
         assert!(rt; matches!(answer(&rt, rt.alloc(), row), Err(WordsFault::Words)));
@@ -224,8 +279,17 @@ fn options_that_do_not_go_together_are_refused(rt: HostRuntime) {
         "decompose --table t --peaks p --da 0 --alphabet C --after C",
         "envelope --table t --formula X",
         "envelope --table t --coverage 0.5",
+        "envelope --table t --formula X --coverage 0.5 --certificate --json",
+        "envelope --json --table t --formula X --coverage 0.5 --certificate",
         "check --table t",
         "check --certificate c",
+        "rank --table t --ppm 2 --alphabet CH --coverage 0.9",
+        "rank --table t --peaks p --alphabet CH --coverage 0.9",
+        "rank --table t --peaks p --ppm 2 --da 1 --alphabet CH --coverage 0.9",
+        "rank --table t --peaks p --ppm 2 --coverage 0.9",
+        "rank --table t --peaks p --ppm 2 --alphabet CH",
+        "generate --table t",
+        "generate --number 1",
         "decompose --table t --mass 99999 --da 99999 --ppm 99999 --alphabet C",
         "decompose --table t --peaks p --da 0 --alphabet C --limit 0",
     ];
@@ -259,12 +323,47 @@ fn the_first_value_outside_its_range_is_told(rt: HostRuntime) {
         let given = answer(&rt, rt.alloc(), words.as_str());
         assert!(rt; matches!(given, Err(WordsFault::Value { option }) if option == number));
     }
-    for coverage in ["0", "0.9999991", "1", "0.1234567890123456789"] {
-        let words = format!(in rt.alloc();
-            "envelope --table t --formula X --coverage {coverage}"
-        ).expect(&rt, "words");
+    let others = [
+        ("envelope --table t --formula X --coverage", "0", 12),
+        ("envelope --table t --formula X --coverage", "0.9999991", 12),
+        ("envelope --table t --formula X --coverage", "1", 12),
+        (
+            "envelope --table t --formula X --coverage",
+            "0.1234567890123456789",
+            12,
+        ),
+        (
+            "rank --table t --peaks p --da 0 --alphabet C --coverage 0.5 --peak",
+            "0",
+            15,
+        ),
+        (
+            "rank --table t --peaks p --da 0 --alphabet C --coverage 0.5 --peak",
+            "10001",
+            15,
+        ),
+        (
+            "rank --table t --peaks p --da 0 --alphabet C --coverage 0.5 --turn",
+            "0",
+            16,
+        ),
+        (
+            "rank --table t --peaks p --da 0 --alphabet C --coverage 0.5 --turn",
+            "1048577",
+            16,
+        ),
+        (
+            "rank --table t --peaks p --da 0 --alphabet C --coverage 0.5 --turns",
+            "1000001",
+            17,
+        ),
+        ("generate --table t --number", "2147483648", 19),
+        ("generate --table t --number", "x", 19),
+    ];
+    for (options, value, number) in others {
+        let words = format!(in rt.alloc(); "{options} {value}").expect(&rt, "words");
         let given = answer(&rt, rt.alloc(), words.as_str());
-        assert!(rt; matches!(given, Err(WordsFault::Value { option: 12 })));
+        assert!(rt; matches!(given, Err(WordsFault::Value { option }) if option == number));
     }
 }
 
@@ -273,28 +372,38 @@ fn values_at_the_ends_of_their_ranges_are_read(rt: HostRuntime) {
     let rows = [
         (
             "decompose --table t --mass 0.000000000001 --da 0 --alphabet C --limit 1",
-            "t Some(1) - Da { units: 0 } C M none Some(1) -",
+            "t Some(1) - Da { units: 0 } C M none Some(1) - false",
         ),
         (
             "decompose --table t --mass 20000 --da 10 --alphabet C --limit 1048576",
-            "t Some(20000000000000000) - Da { units: 10000000000000 } C M none Some(1048576) -",
+            "t Some(20000000000000000) - Da { units: 10000000000000 } C M none Some(1048576) - false",
         ),
         (
             "decompose --table t --peaks p --ppm 0 --alphabet C",
-            "t None p Ppm { thousandths: 0 } C M none None -",
+            "t None p Ppm { thousandths: 0 } C M none None - false",
         ),
         (
             "decompose --table t --peaks p --ppm-calc 1000 --alphabet C",
-            "t None p PpmCalculated { thousandths: 1000000 } C M none None -",
+            "t None p PpmCalculated { thousandths: 1000000 } C M none None - false",
         ),
         (
             "envelope --table t --formula X --coverage 0.999999",
-            "t - M X 999999000000000000 false",
+            "t - M X 999999000000000000 false false",
         ),
         (
             "envelope --table t --formula X --coverage 0.000000000000000001",
-            "t - M X 1 false",
+            "t - M X 1 false false",
         ),
+        (
+            "rank --table t --peaks p --ppm 0 --alphabet C --coverage 0.5 --peak 1 --turn 1 --turns 0",
+            "t - p Ppm { thousandths: 0 } C M none 500000000000000000 Some(1) 1 Some(0) false",
+        ),
+        (
+            "rank --table t --peaks p --ppm 0 --alphabet C --coverage 0.5 --peak 10000 --turn 1048576 --turns 1000000",
+            "t - p Ppm { thousandths: 0 } C M none 500000000000000000 Some(10000) 1048576 Some(1000000) false",
+        ),
+        ("generate --table t --number 0", "t 0"),
+        ("generate --table t --number 2147483647", "t 2147483647"),
     ];
     for (words, fields) in rows {
         assert!(rt; asks(&rt, rt.alloc(), words, fields));
@@ -313,7 +422,7 @@ fn many_and_long_words_are_read(rt: HostRuntime) {
     let text = format!(in rt.alloc();
         "envelope --table {name} --formula={name} --coverage 0.5"
     ).expect(&rt, "words");
-    let fields = format!(in rt.alloc(); "{name} - M {name} 500000000000000000 false").expect(
+    let fields = format!(in rt.alloc(); "{name} - M {name} 500000000000000000 false false").expect(
         &rt, "fields",
     );
     assert!(rt; asks(&rt, rt.alloc(), text.as_str(), fields.as_str()));
@@ -336,7 +445,12 @@ fn options_are_named_as_they_are_written(rt: HostRuntime) {
         "--coverage",
         "--limit",
         "--after",
+        "--peak",
+        "--turn",
+        "--turns",
         "--certificate",
+        "--number",
+        "--json",
     ];
     for (place, name) in names.iter().enumerate() {
         if place < OPTION_COUNT as usize {

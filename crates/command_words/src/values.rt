@@ -80,14 +80,15 @@ pub(crate) fn number_of(matches: &ArgMatches<'_>, option: OptionName) -> Option<
     number_within(option.kind(), value_of(matches, option)?.as_bytes())
 }
 
-/// The number that an option is given which has to be.
+/// The number that an option is given which has to be, or else its default.
 pub(crate) fn required_number(
     matches: &ArgMatches<'_>,
     option: OptionName,
 ) -> Result<u64, WordsFault>
     ensures { result ≡ required_number (matched (found_of matches.now)) option }
 {
-    number_of(matches, option).ok_or(WordsFault::Words)
+    let number = number_of(matches, option).or(option.default_number());
+    number.ok_or(WordsFault::Words)
 }
 
 /// The text that an option is given, if it is.
