@@ -1,0 +1,10 @@
+pub mod RankingOrder
+pub mod StableOrder
+pub mod IonMasses
+pub mod CoverPredictions
+pub mod JobSteps
+pub mod PeakCandidates
+pub mod CandidateRatings
+pub mod JobStates
+pub mod WholeRankings
+pub mod WaitingCandidates

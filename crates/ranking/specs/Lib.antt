@@ -1,0 +1,16 @@
+pub use Rattle.reader_answers.specs.Answers
+pub use Rattle.isotopologue_sets.specs.Layers
+pub use Rattle.isotopologue_sets.specs.Covers
+pub use Rattle.reaching_layer.specs.LayerAnswers
+pub use Rattle.cover_certificate.specs.FormulaCovers
+pub use Rattle.prediction_score.specs.Scores
+pub use Rattle.candidates.specs.Grounds
+pub use Rattle.candidates.specs.PeakFormulas
+pub use Rattle.adducts.specs.Ions
+pub use Rattle.job_turns.specs.Jobs
+pub mod Places
+pub mod Predictions
+pub mod Rankings
+pub mod RankJobs
+pub mod Ratings
+pub mod JobStops
