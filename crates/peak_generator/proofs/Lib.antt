@@ -1,0 +1,3 @@
+pub mod MadeStates
+pub mod MadeCounts
+pub mod PeakPairs
