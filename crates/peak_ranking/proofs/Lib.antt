@@ -1,0 +1,9 @@
+pub mod JobCounts
+pub mod JobsBegun
+pub mod PlayedJobs
+pub mod DoneJobs
+pub mod RankedParts
+pub mod StopsMet
+pub mod TallySteps
+pub mod FirstPlaces
+pub mod FewJobs

@@ -1,0 +1,4 @@
+pub mod RankQueries
+pub mod RankedJobs
+pub mod RankClaims
+pub mod Tallies
