@@ -1,0 +1,2 @@
+pub mod SentEntries
+pub mod Places
