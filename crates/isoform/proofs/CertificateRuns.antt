@@ -19,7 +19,7 @@ use Rattle.cover_certificate.specs.declared.certificate.CertificateWrite.TheVari
 use Rattle.command_words.specs.WordReading.{request_of}
 use Rattle.command_words.specs.declared.fault.WordsFault.{WordsFault}
 use Rattle.command_words.specs.declared.request.Request.{Request}
-use Rattle.command_words.specs.declared.request.Request.TheVariants.{Check, Decompose, Envelope}
+use Rattle.command_words.specs.declared.request.Request.TheVariants.{Check, Decompose, Envelope, Generate, Rank}
 use Rattle.isoform.specs.Answer.{Certified, Checked, Outcome, IsReport, answer, answer_if, answer_of_request, certified_query, check_over, check_query, cover_query, electron_shift, envelope_over, envelope_query, short_enough}
 use Rattle.isoform.specs.Asked.{Asked, Names, asks_file, asks_next, asks_none, bytes_within, result_as, ◌and_then◌}
 use Rattle.isoform.specs.CertificateClaims.{IsAcceptedLater, IsTrueCheck, PassesFor, SaysTrue}
@@ -106,8 +106,10 @@ from_check options files P (Err refusal) is holds = absurd holds
 
 check_holds : (request : Request) (files : Files) (P : Outcome → Type 0) →
     IsOkAnd (answer_of_request request files).result (λ outcome. P outcome × Holds outcome) → IsTrueCheck request files
-check_holds (Decompose table mass peaks tolerance alphabet adduct rules limit after) files P holds = tt
-check_holds (Envelope table tracer adduct formula coverage certificate) files P holds = tt
+check_holds (Decompose table mass peaks tolerance alphabet adduct rules limit after json) files P holds = tt
+check_holds (Envelope table tracer adduct formula coverage certificate json) files P holds = tt
+check_holds (Rank table tracer peaks tolerance alphabet adduct rules coverage peak turn turns json) files P holds = tt
+check_holds (Generate table number) files P holds = tt
 check_holds (Check table tracer certificate) files P holds =
     let options : CheckOptions = record { table = table; tracer = tracer; certificate = certificate } in
     from_check options files P (check_query options files).result refl holds
@@ -246,13 +248,17 @@ envelope_holds : (request : Request) (files : Files) (P : Outcome → Type 0) �
     IsOkAnd (answer_of_request request files).result (λ outcome. P outcome × Holds outcome) →
     IsOkAnd (answer_of_request request files).result (λ outcome. (bytes : List ℕ) → IsReport outcome bytes →
     IsAcceptedLater request files bytes)
-envelope_holds (Decompose table mass peaks tolerance alphabet adduct rules limit after) files P holds =
+envelope_holds (Decompose table mass peaks tolerance alphabet adduct rules limit after json) files P holds =
     any_outcome _ (λ outcome. P outcome × Holds outcome) _ (λ outcome bytes report. tt) holds
 envelope_holds (Check table tracer certificate) files P holds =
     any_outcome _ (λ outcome. P outcome × Holds outcome) _ (λ outcome bytes report. tt) holds
-envelope_holds (Envelope table tracer adduct formula coverage false) files P holds =
+envelope_holds (Rank table tracer peaks tolerance alphabet adduct rules coverage peak turn turns json) files P holds =
     any_outcome _ (λ outcome. P outcome × Holds outcome) _ (λ outcome bytes report. tt) holds
-envelope_holds (Envelope table tracer adduct formula coverage true) files P holds =
+envelope_holds (Generate table number) files P holds =
+    any_outcome _ (λ outcome. P outcome × Holds outcome) _ (λ outcome bytes report. tt) holds
+envelope_holds (Envelope table tracer adduct formula coverage false json) files P holds =
+    any_outcome _ (λ outcome. P outcome × Holds outcome) _ (λ outcome bytes report. tt) holds
+envelope_holds (Envelope table tracer adduct formula coverage true json) files P holds =
     let options : EnvelopeOptions = record {
       table = table;
       tracer = tracer;

@@ -9,12 +9,17 @@ use Rattle.command_words.specs.WordReading as words
 use Rattle.command_words.specs.declared.request.Request.{Request}
 use Rattle.command_words.specs.declared.fault.WordsFault.{WordsFault}
 use Rattle.command_words.specs.declared.fault.WordsFault.TheVariants as words_fault
-use Rattle.isoform.specs.Answer.{Outcome, Formulas, Cover, Certified, Checked, IsReport, answer, answer_if, answer_of_request, file_names, names_if, names_of_request}
+use Rattle.isoform.specs.Answer.{Outcome, Formulas, Cover, Certified, Checked, Ranks, Generates, IsReport}
+use Rattle.isoform.specs.Answer.{FormulasJson, CoverJson, RanksJson}
+use Rattle.isoform.specs.Answer.{answer, answer_if, answer_of_request, file_names, names_if, names_of_request}
 use Rattle.isoform.specs.Asked.{Asked, Names, asked_as, result_as}
 use Rattle.isoform.specs.Claims.{Holds}
+use Rattle.isoform.specs.JsonReports.{cover_json, formulas_json, rank_json}
+use Rattle.isoform.specs.RankReports.{generate_report, rank_report}
 use Rattle.isoform.specs.Refusals.{of_words_fault}
 use Rattle.isoform.specs.Reports.{accepted_report, certificate_report, cover_report, formulas_report}
-use Rattle.isoform.specs.Outside.{AnswersAs, Ending, EndsAs, IsPart, IsPut, IsTold, NoWordsFault, OnlyReads, Outside, Puts, Reads, ReceivesSome, ReceivesSomeOf, RefusesWords, Serves, Shelved, Shows, outside}
+use Rattle.isoform.specs.Outside.{AnswersAs, Ending, EndsAs, IsPart, IsPut, IsTold, NoWordsFault, OnlyReads, Outside, Puts}
+use Rattle.isoform.specs.Outside.{Reads, ReceivesSome, ReceivesSomeOf, RefusesWords, Serves, Shelved, Shows, outside}
 use Rattle.isoform.specs.declared.refusal.Refusal.{Refusal}
 use Rattle.isoform.specs.declared.refusal.Refusal.TheVariants.{Words, Input, ReadFault, WriteFault, Memory}
 use Rattle.isoform.proofs.PartLaws.{all_names, if_some_map}
@@ -25,6 +30,11 @@ some_report (Formulas query) = (formulas_report query, refl)
 some_report (Cover query) = (cover_report query, refl)
 some_report (Certified query) = (certificate_report query, refl)
 some_report (Checked query) = (accepted_report query.certificate, refl)
+some_report (Ranks query) = (rank_report query, refl)
+some_report (Generates query) = (generate_report query, refl)
+some_report (FormulasJson query) = (formulas_json query, refl)
+some_report (CoverJson query) = (cover_json query, refl)
+some_report (RanksJson query) = (rank_json query, refl)
 
 -- nothing more was received
 append_known-nil : (known : Option (List ℕ)) → known ≡ append_known known []

@@ -11,3 +11,9 @@ pub mod CertificateRuns
 pub mod PrintedMasses
 pub mod Puts
 pub mod PutLines
+pub mod RankLines
+pub mod RankHolds
+pub mod MadeElements
+pub mod JsonEntries
+pub mod GeneratedReports
+pub mod KeptFormulas

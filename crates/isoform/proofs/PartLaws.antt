@@ -129,7 +129,7 @@ counts_same X Y before after (Input fault) counts = counts
 counts_same X Y before after WriteFault counts = counts
 counts_same X Y before after Memory counts = counts
 
-reads_same : (X Y : Type 0) (refusal : Refusal) → OnlyReads {X = X} (Err refusal) → OnlyReads {X = Y} (Err refusal)
+pub reads_same : (X Y : Type 0) (refusal : Refusal) → OnlyReads {X = X} (Err refusal) → OnlyReads {X = Y} (Err refusal)
 reads_same X Y (ReadFault name) only = tt
 reads_same X Y (Words fault) only = absurd only
 reads_same X Y (Input fault) only = tt
@@ -149,7 +149,7 @@ first_names : {A B : Type 0} (names : Names) (result : Result A Refusal) (next :
 first_names names (Ok x) next before after some = first_of_both names (next x).names before after some
 first_names names (Err refusal) next before after some = some
 
-answers_stop : {X Y A B : Type 0} (view : X → A) (view_of_all : Y → B) (first : Asked A) (next : A → Asked B)
+pub answers_stop : {X Y A B : Type 0} (view : X → A) (view_of_all : Y → B) (first : Asked A) (next : A → Asked B)
     (before after : Names) (refusal : Refusal) → AnswersAs {X = X} view first before after (Err refusal) →
     AnswersAs {X = Y} view_of_all (first and_then next) before after (Err refusal)
 answers_stop {Y = Y} view view_of_all first next before after (Input fault) answers =

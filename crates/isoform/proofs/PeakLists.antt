@@ -152,7 +152,7 @@ to_candidate premises mz counts is =
     (ap (λ o. is_ion_within premises mz (option_map (mass_of_ion premises.table premises.adduct) o)) is.is_ion ∙ is.within)
     (meets_pass premises.table premises.rules is.formula is.meets))
 
-all_of_peak : (premises : GroundValue) (mz : ℕ) → AreAllOfPeak premises mz (formulas_of_peak premises mz)
+pub all_of_peak : (premises : GroundValue) (mz : ℕ) → AreAllOfPeak premises mz (formulas_of_peak premises mz)
 unfolding formulas_of_peak
 all_of_peak premises mz =
     let limits : List Limit = limits_of premises.alphabet in

@@ -16,7 +16,9 @@ use Rattle.isoform.specs.Outside.{Ending, EndsAs, IsPut, Outside, ReceivesAll, R
 use Rattle.isoform.specs.Outside.{RefusesWords, Shows, TellsLastName, TellsNote, status_of_result}
 use Rattle.isoform.specs.Refusals.{of_words_fault}
 use Rattle.isoform.specs.declared.input_fault.InputFault.{InputFault}
-use Rattle.isoform.specs.declared.input_fault.InputFault.TheVariants.{FileLimit, Table, Tracer, Peaks, Alphabet, Adduct, Rules, After, NotInBox, Formula, NoIon, CandidateLimit, Layer, Certificate, Rejected, CertificateLimit}
+use Rattle.isoform.specs.declared.input_fault.InputFault.TheVariants.{FileLimit, Table, Tracer, Peaks, NoPeak, Alphabet}
+use Rattle.isoform.specs.declared.input_fault.InputFault.TheVariants.{Adduct, Rules, After, NotInBox, Formula, NoIon}
+use Rattle.isoform.specs.declared.input_fault.InputFault.TheVariants.{CandidateLimit, Layer, Certificate, Rejected, CertificateLimit}
 use Rattle.isoform.specs.declared.refusal.Refusal.{Refusal}
 use Rattle.isoform.specs.declared.refusal.Refusal.TheVariants.{Words, Input, ReadFault, WriteFault, Memory}
 use Rattle.isoform.proofs.PartLaws.{all_names, if_some_map}
@@ -28,6 +30,7 @@ status_range (FileLimit name) = ((λ e. omega (arith, e)), lit≤ tt, lit≤ tt)
 status_range (Table fault) = ((λ e. omega (arith, e)), lit≤ tt, lit≤ tt)
 status_range (Tracer fault) = ((λ e. omega (arith, e)), lit≤ tt, lit≤ tt)
 status_range (Peaks fault) = ((λ e. omega (arith, e)), lit≤ tt, lit≤ tt)
+status_range (NoPeak peak) = ((λ e. omega (arith, e)), lit≤ tt, lit≤ tt)
 status_range (Alphabet fault) = ((λ e. omega (arith, e)), lit≤ tt, lit≤ tt)
 status_range (Adduct fault) = ((λ e. omega (arith, e)), lit≤ tt, lit≤ tt)
 status_range (Rules fault) = ((λ e. omega (arith, e)), lit≤ tt, lit≤ tt)

@@ -1,5 +1,5 @@
 -- The program's answer: what is to be printed for its words and the files, or the first refusal.
-use Rattle.std.specs.Prelude.{◌≡◌, ℕ, true, false, ℤ, pos, ◌-ℤ◌, ◌*ℤ◌, List, [], ◌∷◌, ◌++◌, Option, Result, Ok, Err}
+use Rattle.std.specs.Prelude.{◌≡◌, ℕ, Bool, true, false, ℤ, pos, ◌-ℤ◌, ◌*ℤ◌, List, [], ◌∷◌, ◌++◌, Option, Result, Ok, Err}
 use Rattle.reader_answers.specs.Answers.{◌>>=◌}
 use Rattle.outside_ports.specs.Files.{Files}
 use Rattle.element_table.specs.Elements.{TableEntries}
@@ -10,10 +10,15 @@ use Rattle.cover_certificate.specs.CoverCertificates.{cover_certificate}
 use Rattle.command_words.specs.WordReading.{request_of}
 use Rattle.command_words.specs.declared.fault.WordsFault.{WordsFault}
 use Rattle.command_words.specs.declared.request.Request.{Request}
-use Rattle.command_words.specs.declared.request.Request.TheVariants.{Check, Decompose, Envelope}
+use Rattle.command_words.specs.declared.request.Request.TheVariants.{Check, Decompose, Envelope, Generate, Rank}
 use Rattle.isoform.specs.Asked.{Asked, Names, asked_as, asks_none, ◌and_then◌}
 use Rattle.isoform.specs.PageFormulas.{within_limit}
+use Rattle.peak_ranking.specs.RankQueries.{RankQuery}
 use Rattle.isoform.specs.Queries.{CheckQuery, CoverQuery, FormulaQuery}
+use Rattle.isoform.specs.JsonReports.{cover_json, formulas_json, rank_json}
+use Rattle.isoform.specs.RankAnswers.{generate_names, generate_query, rank_names, rank_query}
+use Rattle.isoform.specs.RankQueries.{GenerateQuery}
+use Rattle.isoform.specs.RankReports.{generate_report, rank_report}
 use Rattle.isoform.specs.Refusals.{of_words_fault, or_fault_as}
 use Rattle.isoform.specs.Reports.{accepted_report, asked_cover, certificate_report, cover_report, formulas_report}
 use Rattle.isoform.specs.Steps.{adduct_step, certificate_step, cover_step, ground_step, ion_step, judged_step}
@@ -21,15 +26,36 @@ use Rattle.isoform.specs.Steps.{peaks_names, peaks_step, rules_names, table_step
 use Rattle.isoform.specs.declared.check.CheckOptions.{CheckOptions}
 use Rattle.isoform.specs.declared.decomposition.DecomposeOptions.{DecomposeOptions}
 use Rattle.isoform.specs.declared.envelope.EnvelopeOptions.{EnvelopeOptions}
+use Rattle.isoform.specs.declared.generation.GenerateOptions.{GenerateOptions}
 use Rattle.isoform.specs.declared.input_fault.InputFault.{InputFault}
 use Rattle.isoform.specs.declared.input_fault.InputFault.TheVariants.{CertificateLimit}
+use Rattle.isoform.specs.declared.ranked_peaks.RankOptions.{RankOptions}
 
--- what is to be printed: formulas, a cover, the certificate of a cover, or that a certificate is accepted
+-- What is to be printed: formulas, a cover, the certificate of a cover, that a certificate is accepted, ranked peaks, or
+-- what was found of made ones; the first, the second and the fifth also in JSON.
 pub data Outcome : Type 0 where
   Formulas : FormulaQuery → Outcome
   Cover : CoverQuery → Outcome
   Certified : CoverQuery → Outcome
   Checked : CheckQuery → Outcome
+  Ranks : RankQuery → Outcome
+  Generates : GenerateQuery → Outcome
+  FormulasJson : FormulaQuery → Outcome
+  CoverJson : CoverQuery → Outcome
+  RanksJson : RankQuery → Outcome
+
+-- formulas, a cover or ranked peaks as text, or in JSON where that is asked for
+abbrev pub formulas_in : Bool → FormulaQuery → Outcome
+formulas_in false query = Formulas query
+formulas_in true query = FormulasJson query
+
+abbrev pub cover_in : Bool → CoverQuery → Outcome
+cover_in false query = Cover query
+cover_in true query = CoverJson query
+
+abbrev pub ranks_in : Bool → RankQuery → Outcome
+ranks_in false query = Ranks query
+ranks_in true query = RanksJson query
 
 -- the bytes are the report of an outcome
 abbrev pub IsReport : Outcome → List ℕ → Type 0
@@ -37,6 +63,11 @@ IsReport (Formulas query) bytes = bytes ≡ formulas_report query
 IsReport (Cover query) bytes = bytes ≡ cover_report query
 IsReport (Certified query) bytes = bytes ≡ certificate_report query
 IsReport (Checked query) bytes = bytes ≡ accepted_report query.certificate
+IsReport (Ranks query) bytes = bytes ≡ rank_report query
+IsReport (Generates query) bytes = bytes ≡ generate_report query
+IsReport (FormulasJson query) bytes = bytes ≡ formulas_json query
+IsReport (CoverJson query) bytes = bytes ≡ cover_json query
+IsReport (RanksJson query) bytes = bytes ≡ rank_json query
 
 -- the page that is asked for: the token may be refused, and then the number of formulas
 abbrev pub page_step : GroundValue → List ℕ → Option ℕ → Option (List ℕ) → Result FormulaQuery InputFault
@@ -114,8 +145,8 @@ check_names options = (options.table ∷ []) ++ (tracer_names options.tracer ++ 
 
 -- what comes of a request over files: the first step that refuses is the answer
 abbrev pub answer_of_request : Request → Files → Asked Outcome
-answer_of_request (Decompose table mass peaks tolerance alphabet adduct rules limit after) files =
-    asked_as Formulas (decompose_query (record {
+answer_of_request (Decompose table mass peaks tolerance alphabet adduct rules limit after json) files =
+    asked_as (formulas_in json) (decompose_query (record {
       table = table;
       mass = mass;
       peaks = peaks;
@@ -126,15 +157,15 @@ answer_of_request (Decompose table mass peaks tolerance alphabet adduct rules li
       limit = limit;
       after = after;
     }) files)
-answer_of_request (Envelope table tracer adduct formula coverage false) files =
-    asked_as Cover (envelope_query (record {
+answer_of_request (Envelope table tracer adduct formula coverage false json) files =
+    asked_as (cover_in json) (envelope_query (record {
       table = table;
       tracer = tracer;
       adduct = adduct;
       formula = formula;
       coverage = coverage;
     }) files)
-answer_of_request (Envelope table tracer adduct formula coverage true) files =
+answer_of_request (Envelope table tracer adduct formula coverage true json) files =
     asked_as Certified (certified_query (record {
       table = table;
       tracer = tracer;
@@ -144,6 +175,22 @@ answer_of_request (Envelope table tracer adduct formula coverage true) files =
     }) files)
 answer_of_request (Check table tracer certificate) files =
     asked_as Checked (check_query (record { table = table; tracer = tracer; certificate = certificate }) files)
+answer_of_request (Rank table tracer peaks tolerance alphabet adduct rules coverage peak turn turns json) files =
+    asked_as (ranks_in json) (rank_query (record {
+      table = table;
+      tracer = tracer;
+      peaks = peaks;
+      tolerance = tolerance;
+      alphabet = alphabet;
+      adduct = adduct;
+      rules = rules;
+      coverage = coverage;
+      peak = peak;
+      turn = turn;
+      turns = turns;
+    }) files)
+answer_of_request (Generate table number) files =
+    asked_as Generates (generate_query (record { table = table; number = number }) files)
 
 -- the same, where the words are a request
 abbrev pub answer_if : Result Request WordsFault → Files → Asked Outcome
@@ -156,7 +203,7 @@ answer words files = answer_if (request_of words) files
 
 -- the names of the files of a request, in the order in which they are asked for
 abbrev pub names_of_request : Request → Names
-names_of_request (Decompose table mass peaks tolerance alphabet adduct rules limit after) =
+names_of_request (Decompose table mass peaks tolerance alphabet adduct rules limit after json) =
     decompose_names (record {
       table = table;
       mass = mass;
@@ -168,7 +215,7 @@ names_of_request (Decompose table mass peaks tolerance alphabet adduct rules lim
       limit = limit;
       after = after;
     })
-names_of_request (Envelope table tracer adduct formula coverage certificate) =
+names_of_request (Envelope table tracer adduct formula coverage certificate json) =
     envelope_names (record {
       table = table;
       tracer = tracer;
@@ -178,6 +225,21 @@ names_of_request (Envelope table tracer adduct formula coverage certificate) =
     })
 names_of_request (Check table tracer certificate) =
     check_names (record { table = table; tracer = tracer; certificate = certificate })
+names_of_request (Rank table tracer peaks tolerance alphabet adduct rules coverage peak turn turns json) =
+    rank_names (record {
+      table = table;
+      tracer = tracer;
+      peaks = peaks;
+      tolerance = tolerance;
+      alphabet = alphabet;
+      adduct = adduct;
+      rules = rules;
+      coverage = coverage;
+      peak = peak;
+      turn = turn;
+      turns = turns;
+    })
+names_of_request (Generate table number) = generate_names (record { table = table; number = number })
 
 -- the same of words, which have none where they are no request
 abbrev pub names_if : {E : Type 0} → Result Request E → Names

@@ -37,5 +37,6 @@ PassesFor table tracer bytes files =
 
 -- the certificate that `envelope` was asked for
 abbrev pub IsAcceptedLater : Request → Files → List ℕ → Type 0
-IsAcceptedLater (Envelope table tracer adduct formula coverage true) files bytes = PassesFor table tracer bytes files
+IsAcceptedLater (Envelope table tracer adduct formula coverage true json) files bytes =
+    PassesFor table tracer bytes files
 IsAcceptedLater request files bytes = ⊤

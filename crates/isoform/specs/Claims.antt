@@ -1,5 +1,7 @@
--- What holds of what a run printed: of the formulas of peaks, of an envelope in exact weights, and of certificates.
-use Rattle.std.specs.Prelude.{◌≡◌, ◌≢◌, ℕ, ◌≤◌, List, [], ◌∷◌, ◌++◌, length, Ok, Option, Some, MatchOption, All, AllPairs, Contains, map, IsTrue, ◌↔◌}
+-- What holds of what a run printed: of the formulas of peaks, of an envelope in exact weights, of certificates, and of
+-- ranked peaks.
+use Rattle.std.specs.Prelude.{◌≡◌, ◌≢◌, ℕ, ◌+◌, ◌≤◌, List, [], ◌∷◌, ◌++◌, length, Ok, Option, Some, MatchOption}
+use Rattle.std.specs.Prelude.{All, AllPairs, Contains, map, IsTrue, ◌↔◌}
 use Rattle.mass_scaling.specs.Tolerances.{Within}
 use Rattle.decompose.specs.CountLists.{IsInBox, comes_after}
 use Rattle.decompose.specs.Enumeration.{lists_after}
@@ -23,7 +25,10 @@ use Rattle.cover_certificate.specs.CoverCertificates.{certificate_of_cover}
 use Rattle.certificate_check.specs.CertificateMeaning.{CertificateMeans}
 use Rattle.certificate_check.specs.Judgements.{judgement}
 use Rattle.certificate_check.specs.declared.judgement.Judgement.TheVariants.{Accepted}
-use Rattle.isoform.specs.Answer.{Outcome, Formulas, Cover, Certified, Checked}
+use Rattle.prediction_score.specs.Matches.{mz_at}
+use Rattle.peak_ranking.specs.RankClaims.{AreRankedParts}
+use Rattle.peak_ranking.specs.RankQueries.{RankQuery}
+use Rattle.isoform.specs.Answer.{Outcome, Formulas, Cover, Certified, Checked, Ranks, Generates, FormulasJson, CoverJson, RanksJson}
 use Rattle.isoform.specs.PageFormulas.{asked_counts, token_counts}
 use Rattle.isoform.specs.Queries.{FormulaQuery}
 use Rattle.isoform.specs.Reports.{asked_cover}
@@ -101,10 +106,23 @@ pub record PassesCheck (table : TableEntries) (cover : CoverEntries) : Type 0 wh
   pub read_again : certificate_of table (written_text (certificate_of_cover cover)) ≡ Ok (certificate_of_cover cover)
   pub accepted : judgement table (certificate_of_cover cover) ≡ Accepted
 
+-- What is printed of ranked peaks: under each job the part of its list that its turns allow, by rising score; and the
+-- candidates, of which that is the first part, are exactly the formulas of the peak.
+pub record RanksTrue (query : RankQuery) : Type 0 where
+  pub parts : AreRankedParts query
+  pub all : (index : ℕ) → AreAllOfPeak query.premises (mz_at query.peaks (query.first + index))
+      (formulas_of_peak query.premises (mz_at query.peaks (query.first + index)))
+
 -- What is claimed of an outcome: the formulas of each peak are exactly those; what its cover claims is true, and the
--- certificate that was printed of it passes its check; what the certificate that was accepted says is true.
+-- certificate that was printed of it passes its check; what the certificate that was accepted says is true; the ranked
+-- candidates of each peak are the first of exactly its formulas.
 abbrev pub Holds : Outcome → Type 0
 Holds (Formulas query) = All (PrintsPeak query) query.mzs
 Holds (Cover query) = HoldsTrue query.table (asked_cover query)
 Holds (Certified query) = HoldsTrue query.table (asked_cover query) × PassesCheck query.table (asked_cover query)
 Holds (Checked query) = CertificateMeans query.table query.certificate
+Holds (Ranks query) = RanksTrue query
+Holds (Generates query) = RanksTrue query.ranking
+Holds (FormulasJson query) = All (PrintsPeak query) query.mzs
+Holds (CoverJson query) = HoldsTrue query.table (asked_cover query)
+Holds (RanksJson query) = RanksTrue query

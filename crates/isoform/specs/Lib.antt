@@ -4,8 +4,13 @@ pub mod Asked
 pub mod Steps
 pub mod Inputs
 pub mod Queries
+pub mod RankQueries
 pub mod PageFormulas
 pub mod Reports
+pub mod RankSteps
+pub mod RankReports
+pub mod JsonReports
+pub mod RankAnswers
 pub mod Answer
 pub mod Claims
 pub mod CertificateClaims

@@ -13,7 +13,7 @@ use Rattle.formula_text.specs.PrintedText.{printed_text}
 use Rattle.certificate_text.specs.CertificateFaults.{certificate_fault_words}
 use Rattle.certificate_check.specs.JudgementWords.{judgement_words}
 use Rattle.isoform.specs.declared.input_fault.InputFault.{InputFault}
-use Rattle.isoform.specs.declared.input_fault.InputFault.TheVariants.{FileLimit, Table, Tracer, Peaks, Alphabet, Adduct, Rules}
+use Rattle.isoform.specs.declared.input_fault.InputFault.TheVariants.{FileLimit, Table, Tracer, Peaks, NoPeak, Alphabet, Adduct, Rules}
 use Rattle.isoform.specs.declared.input_fault.InputFault.TheVariants.{After, NotInBox, Formula, NoIon, CandidateLimit, Layer}
 use Rattle.isoform.specs.declared.input_fault.InputFault.TheVariants.{Certificate, CertificateLimit, Rejected}
 use Rattle.isoform.specs.declared.refusal.Refusal.{Refusal}
@@ -25,6 +25,7 @@ status_of_fault (FileLimit name) = 6
 status_of_fault (Table fault) = 3
 status_of_fault (Tracer fault) = 3
 status_of_fault (Peaks fault) = 4
+status_of_fault (NoPeak peak) = 4
 status_of_fault (Alphabet fault) = 5
 status_of_fault (Adduct fault) = 5
 status_of_fault (Rules fault) = 5
@@ -51,6 +52,7 @@ fault_message (FileLimit name) = codes "limit: file " ++ name
 fault_message (Table fault) = codes "table: " ++ table_fault_words fault
 fault_message (Tracer fault) = codes "tracer: " ++ tracer_fault_words fault
 fault_message (Peaks fault) = codes "peaks: " ++ peak_fault_words fault
+fault_message (NoPeak peak) = codes "peaks: no peak " ++ decimal peak
 fault_message (Alphabet fault) = codes "alphabet: " ++ alphabet_fault_words fault
 fault_message (Adduct fault) = codes "adduct: " ++ adduct_fault_words fault
 fault_message (Rules fault) = codes "rules: " ++ rules_fault_words fault

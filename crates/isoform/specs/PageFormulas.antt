@@ -1,5 +1,5 @@
 -- The formulas of a peak that are asked for, by their count lists: a page of all formulas of the peak.
-use Rattle.std.specs.Prelude.{ℕ, ◌-◌, nat_lt, List, length, take, find, is_some, if◌then◌else◌, Option, Some, None, option_map, Result, Ok}
+use Rattle.std.specs.Prelude.{ℕ, ◌-◌, ◌≡◌, nat_lt, List, slice_index, slice_index_or, IfSome, length, take, find, is_some, if◌then◌else◌, Option, Some, None, option_map, Result, Ok}
 use Rattle.std.specs.List.{enumerate_from}
 use Rattle.reader_answers.specs.Answers.{unless_fault}
 use Rattle.written_items.specs.declared.item.Item.{Item}
@@ -32,6 +32,11 @@ counts_after premises after mz = after_given (formulas_of_peak premises mz) (tok
 -- the page of a peak that a query asks for
 abbrev pub asked_counts : FormulaQuery → ℕ → List (List ℕ)
 asked_counts query mz = first_of query.limit (counts_after query.premises query.after mz)
+
+-- what is kept of the first peaks: of some of them the page that a query asks for
+abbrev pub AreKept : FormulaQuery → List (Option (List (List ℕ))) → Type 0
+AreKept query kept =
+    (k : ℕ) → IfSome (slice_index_or kept k None) (λ lists. lists ≡ asked_counts query (slice_index query.mzs k))
 
 -- the peaks with their numbers, from 1
 abbrev pub numbered : List ℕ → List (ℕ × ℕ)

@@ -1,33 +1,38 @@
 //! `decompose`: the formulas of peaks.
-ghost use Rattle.std.specs.Prelude.{◌≡◌, ◌≢◌, ◌↔◌, ◌<◌, ◌++◌, All, IfOk, IfSome, IsTrue, Some, length, nat_lt};
+ghost use Rattle.std.specs.Prelude.{◌≡◌, ◌≢◌, ◌↔◌, ◌<◌, ◌≤◌, [], ◌∷◌, ◌++◌, All, IfOk, IfSome, IsTrue, OnOk, Some};
+ghost use Rattle.std.specs.Prelude.{length, map, nat_lt, slice_index};
 ghost use Rattle.std.specs.List.{flat_map};
 ghost use Rattle.mass_scaling.specs.Limits.{IsTolerance};
 ghost use Rattle.mass_scaling.specs.declared.limits.TheConstants.{MAX_MZ};
 ghost use Rattle.command_words.specs.Requests.{IsWithin};
 ghost use Rattle.command_words.specs.declared.options.TheConstants.{MIN_MZ};
-ghost use Rattle.candidates.specs.Enumeration.{counts_left};
+ghost use Rattle.candidates.specs.Enumeration.{counts_left, formulas_left};
 ghost use Rattle.candidates.specs.Grounds.{IsGround};
 ghost use Rattle.candidates.specs.Lines.{line_at};
+ghost use Rattle.candidates.specs.Standings.{IsToken};
 ghost use Rattle.candidates.specs.Tokens.{IsInAlphabetBox};
 ghost use Rattle.isoform.specs.Answer.{decompose_names, decompose_query, page_step};
 ghost use Rattle.isoform.specs.Claims.{PrintsPeak};
 ghost use Rattle.isoform.specs.Inputs.{IsMz};
+ghost use Rattle.isoform.specs.JsonReports.{asked_formulas, formulas_json, peak_in};
 ghost use Rattle.isoform.specs.Outside.{IsPart, Puts, shelved};
-ghost use Rattle.isoform.specs.PageFormulas.{counts_after, first_of, numbered, one_less, within_limit};
+ghost use Rattle.isoform.specs.PageFormulas.{AreKept, asked_counts, counts_after, first_of, numbered};
+ghost use Rattle.isoform.specs.PageFormulas.{one_less, within_limit};
 ghost use Rattle.isoform.specs.Refusals.{GivesInput};
 ghost use Rattle.isoform.specs.Reports.{formulas_report, peak_lines};
 ghost use Rattle.isoform.specs.Steps.{after_step, in_box, token_step};
 
 use crate::input_fault::InputFault;
 use crate::inputs::{ground_of, peaks_of, table_of};
-use crate::output::put_text;
+use crate::output::{put_line, put_text};
 use crate::refusal::Refusal;
-use candidates::{Candidates, Ground, ResumeFault};
+use candidates::{Candidates, CountLists, Ground, ResumeFault, push_line};
 use command_words::{MAX_LIMIT, Word};
 use formula_text::{Formula, read_formula};
 use mass_scaling::Tolerance;
 use outside_ports::{Shelf, Sink, Steps};
 use report_lines::{push_decompose_head, push_peak_line};
+use report_text::{Report, json_text};
 use std::alloc::{AllocError, Global};
 use std::marker::{Brand, Model};
 use std::sync::ledger::{Blank, Ledger};
@@ -37,6 +42,9 @@ pub const MAX_CANDIDATES: u64 = 1_048_576;
 
 // A page is never longer than that, so a request for one is refused at no peak.
 const _: () = prove!(MAX_LIMIT == MAX_CANDIDATES);
+
+/// The most counts that are kept of formulas, to be printed without another search: 16 MiB of them.
+const MAX_KEPT_COUNTS: usize = 4_194_304;
 
 /// An m/z with which a token is tried: whether it is in the box rests on the alphabet alone.
 const ANY_MZ: u64 = 1;
@@ -62,6 +70,8 @@ pub struct Decomposition {
     mzs: Vec<u64>,
     after: Option<Formula>,
     limit: Option<u64>,
+    /// The formulas of the first peaks, of those whose formulas are kept.
+    kept: Vec<Option<CountLists>>,
 }
 
 impl Model for Decomposition {
@@ -69,6 +79,7 @@ impl Model for Decomposition {
     ghost use Rattle.candidates.specs.Grounds.{IsGround};
     ghost use Rattle.candidates.specs.Tokens.{IsInAlphabetBox};
     ghost use Rattle.isoform.specs.Inputs.{IsMz};
+    ghost use Rattle.isoform.specs.PageFormulas.{AreKept};
     ghost use Rattle.isoform.specs.Queries.{FormulaQuery};
 
     ghost Value = { FormulaQuery };
@@ -76,7 +87,17 @@ impl Model for Decomposition {
     ghost view = { λ d. record { premises = d.premises; mzs = d.mzs.items; after = d.after; limit = d.limit } };
 
     ghost invariant = { λ d. All IsMz d.mzs.items × IfSome d.after (IsInAlphabetBox d.premises.alphabet)
-        × IsGround d.premises };
+        × IsGround d.premises
+        × AreKept (record { premises = d.premises; mzs = d.mzs.items; after = d.after; limit = d.limit }) d.kept.items };
+}
+
+/// What was found of the number of formulas of a peak.
+#[derive(Drop)]
+struct PeakCount {
+    /// Whether there are more than 1,048,576.
+    is_crowded: bool,
+    /// The formulas, where there was room for them.
+    lists: Option<CountLists>,
 }
 
 impl Decomposition {
@@ -120,40 +141,62 @@ impl Decomposition {
         ensures { GivesInput (λ d. d) (page_step premises mzs.items limit after.now) result }
     {
         let after = token_of(alloc, &premises, after)?;
-        let decomposition = Decomposition {
+        let mut decomposition = Decomposition {
             premises,
             mzs,
             after,
             limit,
+            kept: Vec::new(alloc),
         };
-        decomposition.check_limit(alloc)?;
+        let kept = decomposition.check_limit(alloc)?;
+        decomposition.kept = kept;
         Ok(decomposition)
     }
 
-    /// Refuses the first peak that has more than 1,048,576 formulas behind the token, unless so many are asked for.
-    fn check_limit(&self, alloc: Global) -> Result<(), Refusal>
-        ensures { GivesInput (λ done. self.now) (within_limit self.now) result }
+    /// Refuses the first peak that has more than 1,048,576 formulas behind the token, unless so many are asked for. Gives
+    /// the formulas of the peaks, of those for which there is room.
+    fn check_limit(&self, alloc: Global) -> Result<Vec<Option<CountLists>>, Refusal>
+        ensures limit { GivesInput (λ kept. self.now) (within_limit self.now) result }
+        ensures kept { IfOk result (λ kept. AreKept self.now kept.items) }
     {
+        let mut kept = Vec::new(alloc);
         if self.limit.is_some() {
-            return Ok(());
+            return Ok(kept);
         }
+        let mut room = most_kept(&self.premises);
         for (i, mz) in self.mzs.iter().enumerate() {
-            if self.is_crowded(alloc, *mz)? {
+            let count = self.count(alloc, *mz, room)?;
+            if count.is_crowded {
                 let peak = i as u64 + 1;
                 return Err(Refusal::Input(InputFault::CandidateLimit { peak }));
             }
+            room = room_beside(room, &count.lists);
+            push_lists(&mut kept, count.lists)?;
         }
-        Ok(())
+        Ok(kept)
     }
 
-    /// Whether a peak has more than 1,048,576 formulas behind the token.
-    fn is_crowded(&self, alloc: Global, mz: u64) -> Result<bool, AllocError>
-        requires { IsMz mz }
-        ensures { IfOk result (λ crowded.
-            crowded ≡ nat_lt MAX_CANDIDATES (length (counts_after self.now.premises self.now.after mz))) }
+    /// Counts the formulas of a peak behind the token, and keeps them where there are at most `room`.
+    fn count(&self, alloc: Global, mz: u64, room: usize) -> Result<PeakCount, AllocError>
+        requires mz { IsMz mz }
+        requires room { room < MAX_CANDIDATES }
+        ensures crowded { IfOk result (λ count.
+            count.is_crowded ≡ nat_lt MAX_CANDIDATES (length (counts_after self.now.premises self.now.after mz))) }
+        ensures lists { IfOk result (λ count.
+            IfSome count.lists (λ lists. lists ≡ counts_after self.now.premises self.now.after mz)) }
     {
         let mut candidates = self.candidates(alloc, mz)?;
-        has_many::<Brand>(&mut candidates, Blank::new(1))
+        count_left::<Brand>(&mut candidates, room, Blank::new(1))
+    }
+
+    /// The formulas of the page of a peak, where they are kept.
+    fn kept(&self, place: usize) -> Option<&CountLists>
+        ensures { IfSome result (λ lists. lists.now ≡ asked_counts self.now (slice_index self.now.mzs place)) }
+    {
+        match self.kept.get(place) {
+            Some(Some(lists)) => Some(lists),
+            _ => None,
+        }
     }
 
     /// The formulas of a peak behind the token.
@@ -186,6 +229,41 @@ impl Decomposition {
         self.write_peaks(alloc, &mut line, out)
     }
 
+    /// Puts the report as one line of JSON.
+    pub fn write_json<O: Sink>(&self, alloc: Global, out: &mut O) -> Result<(), Refusal>
+        ensures puts { Puts (formulas_json self.now)
+            (O.written out.old) (O.written out.new) (O.faults out.old) (O.faults out.new) result }
+        ensures holds { All (PrintsPeak self.now) self.now.mzs }
+    {
+        // What is claimed rests on the premises.
+        let _ = &self.premises;
+        let report = self.entries(alloc)?;
+        put_line(&json_text(alloc, &report)?, out)
+    }
+
+    /// The entries of the report.
+    fn entries(&self, alloc: Global) -> Result<Report, AllocError>
+        ensures { IfOk result (λ report. report ≡ Report.Decompose (map (peak_in self.now) (numbered self.now.mzs))) }
+    {
+        let table = self.premises.table();
+        let adduct = self.premises.adduct();
+        let mut report = Report::decompose(alloc);
+        for mz in &self.mzs {
+            let formulas = self.formulas(alloc, *mz)?;
+            report.add_peak(alloc, table, adduct, *mz, &formulas)?;
+        }
+        Ok(report)
+    }
+
+    /// The formulas of a peak's page.
+    fn formulas(&self, alloc: Global, mz: u64) -> Result<Vec<Formula>, AllocError>
+        requires { IsMz mz }
+        ensures { IfOk result (λ formulas. formulas.items ≡ asked_formulas self.now mz) }
+    {
+        let mut candidates = self.candidates(alloc, mz)?;
+        formulas_of::<Brand>(alloc, &mut candidates, self.limit, Blank::new(1))
+    }
+
     /// Puts the lines of the peaks. `line` is room that is used again.
     fn write_peaks<O: Sink>(
         &self,
@@ -197,30 +275,61 @@ impl Decomposition {
             (O.written out.old) (O.written out.new) (O.faults out.old) (O.faults out.new) result }
     {
         for (i, mz) in self.mzs.iter().enumerate() {
-            self.write_peak(alloc, i as u64 + 1, *mz, line, out)?;
+            self.write_peak(alloc, i as u64 + 1, *mz, self.kept(i), line, out)?;
         }
         Ok(())
     }
 
-    /// Puts the lines of a peak of this number. `line` is room that is used again.
+    /// Puts the lines of a peak of this number, whose formulas are searched for unless they are kept. `line` is room that
+    /// is used again.
     fn write_peak<O: Sink>(
         &self,
         alloc: Global,
         number: u64,
         mz: u64,
+        kept: Option<&CountLists>,
         line: &mut Vec<u8>,
         out: &mut O,
     ) -> Result<(), Refusal>
-        requires { IsMz mz }
+        requires mz { IsMz mz }
+        requires kept { IfSome kept (λ lists. lists.now ≡ asked_counts self.now mz) }
         ensures { Puts (peak_lines self.now (number, mz))
             (O.written out.old) (O.written out.new) (O.faults out.old) (O.faults out.new) result }
     {
         line.clear();
         push_peak_line(line, number, mz)?;
         put_text(line, out)?;
+        if let Some(lists) = kept {
+            return put_kept(&self.premises, mz, lists, line, out);
+        }
         let mut candidates = self.candidates(alloc, mz)?;
         put_formulas::<Brand, O>(&mut candidates, self.limit, line, out, Blank::new(1))
     }
+}
+
+/// The formulas that are left, or the first so many. The steps of the search are counted in the ledger that `blank` opens.
+fn formulas_of<L: Ledger>(
+    alloc: Global,
+    candidates: &mut Candidates<'_>,
+    limit: Option<u64>,
+    blank: Blank,
+) -> Result<Vec<Formula>, AllocError>
+    requires name { blank.name ≡ L.name }
+    requires parts { blank.parts ≡ L.parts }
+    requires some { 0 < blank.parts }
+    ensures { IfOk result (λ formulas. formulas.items ≡ first_of limit (formulas_left candidates.old)) }
+{
+    let mut steps = Steps::<L>::new(blank);
+    let mut formulas = Vec::new(alloc);
+    let mut most = limit;
+    'formulas: while allows_one(most) {
+        let Some(formula) = candidates.next(&mut steps)? else {
+            return Ok(formulas);
+        };
+        formulas.push(formula)?;
+        most = one_less(most);
+    }
+    Ok(formulas)
 }
 
 /// The token of a text, where there is one.
@@ -263,15 +372,84 @@ fn in_box(alloc: Global, premises: &Ground, formula: Formula) -> Result<Formula,
     }
 }
 
-/// Whether more than 1,048,576 formulas are left. The steps of the search are counted in the ledger that `blank` opens.
-fn has_many<L: Ledger>(candidates: &mut Candidates<'_>, blank: Blank) -> Result<bool, AllocError>
+/// How many formulas of an alphabet are kept at most, fewer than those that a peak may have.
+fn most_kept(premises: &Ground) -> usize
+    ensures { result < MAX_CANDIDATES }
+{
+    let most = MAX_KEPT_COUNTS / premises.alphabet().items().len();
+    most.min(MAX_CANDIDATES as usize - 1)
+}
+
+/// The room that is left beside these lists, if there are any.
+fn room_beside(room: usize, lists: &Option<CountLists>) -> usize
+    ensures { result ≤ room }
+{
+    match lists {
+        Some(lists) => room.saturating_sub(lists.len()),
+        None => room,
+    }
+}
+
+/// Adds the lists of one more peak, if they are kept.
+fn push_lists(
+    kept: &mut Vec<Option<CountLists>>,
+    lists: Option<CountLists>,
+) -> Result<(), AllocError>
+    ensures { OnOk result (kept.new.items ≡ kept.old.items ++ lists ∷ []) }
+{
+    kept.push(lists)?;
+    Ok(())
+}
+
+/// Counts the formulas that are left, and keeps them where there are at most `room`. The steps of the search are counted in
+/// the ledger that `blank` opens.
+fn count_left<L: Ledger>(
+    candidates: &mut Candidates<'_>,
+    room: usize,
+    blank: Blank,
+) -> Result<PeakCount, AllocError>
+    requires room { room < MAX_CANDIDATES }
     requires name { blank.name ≡ L.name }
     requires parts { blank.parts ≡ L.parts }
     requires some { 0 < blank.parts }
-    ensures { IfOk result (λ many. many ≡ nat_lt MAX_CANDIDATES (length (counts_left candidates.old))) }
+    ensures crowded { IfOk result (λ count.
+        count.is_crowded ≡ nat_lt MAX_CANDIDATES (length (counts_left candidates.old))) }
+    ensures lists { IfOk result (λ count. IfSome count.lists (λ lists. lists ≡ counts_left candidates.old)) }
 {
     let mut steps = Steps::<L>::new(blank);
-    candidates.has_more_than(MAX_CANDIDATES, &mut steps)
+    let lists = candidates.keep(room, &mut steps)?;
+    if lists.is_some() {
+        return Ok(PeakCount {
+            is_crowded: false,
+            lists,
+        });
+    }
+    let others = MAX_CANDIDATES - 1 - room as u64;
+    let is_crowded = candidates.has_more_than(others, &mut steps)?;
+    Ok(PeakCount {
+        is_crowded,
+        lists: None,
+    })
+}
+
+/// Puts the lines of formulas that are kept. `line` is room that is used again.
+fn put_kept<O: Sink>(
+    premises: &Ground,
+    mz: u64,
+    lists: &CountLists,
+    line: &mut Vec<u8>,
+    out: &mut O,
+) -> Result<(), Refusal>
+    requires tokens { All (IsToken premises.now) lists.now }
+    ensures { Puts (flat_map (line_at premises.now mz) lists.now)
+        (O.written out.old) (O.written out.new) (O.faults out.old) (O.faults out.new) result }
+{
+    for place in 0..lists.len() {
+        line.clear();
+        push_line(premises, mz, lists.list(place), line)?;
+        put_line(line, out)?;
+    }
+    Ok(())
 }
 
 /// Puts the lines of the formulas that are left, or of the first so many, each when it is found. `line` is room that is
@@ -295,7 +473,7 @@ fn put_formulas<L: Ledger, O: Sink>(
     'formulas: while allows_one(most) && candidates.advance(&mut steps) {
         line.clear();
         candidates.push_line(line)?;
-        put_text(line, out)?;
+        put_line(line, out)?;
         most = one_less(most);
     }
     Ok(())

@@ -8,6 +8,7 @@ ghost use Rattle.formula_text.specs.Masses.{HasItems};
 ghost use Rattle.isoform.specs.Answer.{certificate_text, cover_query, electron_shift, envelope_names, envelope_over, envelope_query};
 ghost use Rattle.isoform.specs.Claims.{HoldsTrue, PassesCheck};
 ghost use Rattle.isoform.specs.Inputs.{IsElectronShift};
+ghost use Rattle.isoform.specs.JsonReports.{cover_json};
 ghost use Rattle.isoform.specs.Outside.{IsPart, Puts, shelved};
 ghost use Rattle.isoform.specs.Refusals.{GivesInput};
 ghost use Rattle.isoform.specs.Reports.{asked_cover, cover_report};
@@ -17,7 +18,7 @@ ghost use Rattle.report_lines.specs.ReportLines.{IsPrintedWith, cover_members, i
 
 use crate::input_fault::InputFault;
 use crate::inputs::{adduct_in, table_of, traced_table};
-use crate::output::put_text;
+use crate::output::{put_line, put_text};
 use crate::refusal::Refusal;
 use adducts::{Adduct, ion_of};
 use command_words::Word;
@@ -28,6 +29,7 @@ use element_table::Table;
 use formula_text::{Formula, read_formula};
 use outside_ports::{Shelf, Sink};
 use report_lines::{numbered_head, push_isotopologue_words};
+use report_text::{Report, json_text};
 use std::alloc::{AllocError, Global};
 use std::marker::Model;
 
@@ -153,6 +155,17 @@ impl Envelope {
         put_text(&numbered_head(alloc, &self.cover)?, out)?;
         put_members(alloc, &self.cover, self.shift, out)
     }
+
+    /// Puts the report as one line of JSON.
+    pub fn write_json<O: Sink>(&self, alloc: Global, out: &mut O) -> Result<(), Refusal>
+        ensures puts { Puts (cover_json self.now)
+            (O.written out.old) (O.written out.new) (O.faults out.old) (O.faults out.new) result }
+        ensures holds { HoldsTrue self.now.table (asked_cover self.now) }
+    {
+        let cover = Cover::of_numbered(alloc, &self.cover)?;
+        let report = Report::envelope(alloc, &cover, self.shift)?;
+        put_line(&json_text(alloc, &report)?, out)
+    }
 }
 
 /// The ion of the formula that a text is.
@@ -194,7 +207,7 @@ fn put_members<O: Sink>(
     let mut line = Vec::new(alloc);
     for place in 0..cover.size() as usize {
         write_member(cover, place, shift, &mut text, &mut line)?;
-        put_text(&line, out)?;
+        put_line(&line, out)?;
     }
     Ok(())
 }

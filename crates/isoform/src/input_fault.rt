@@ -24,6 +24,8 @@ pub enum InputFault {
     Tracer(TracerFault),
     /// The bytes of the peaks have a fault.
     Peaks(PeakFault),
+    /// The list has no peak of this number.
+    NoPeak { peak: u64 },
     /// The text of the alphabet has a fault.
     Alphabet(AlphabetFault),
     /// The text of the adduct has a fault.
@@ -58,7 +60,7 @@ impl InputFault {
         match self {
             InputFault::Rejected(_) => 1,
             InputFault::Table(_) | InputFault::Tracer(_) => 3,
-            InputFault::Peaks(_) => 4,
+            InputFault::Peaks(_) | InputFault::NoPeak { .. } => 4,
             InputFault::Alphabet(_)
             | InputFault::Adduct(_)
             | InputFault::Rules(_)
@@ -90,6 +92,10 @@ impl InputFault {
             }
             InputFault::Peaks(fault) => {
                 labelled(alloc, b"peaks: ", fault.words(alloc)?.as_bytes())
+            }
+            InputFault::NoPeak { peak } => {
+                let message = format!(in alloc; "peaks: no peak {peak}")?;
+                Ok(message.into_bytes())
             }
             InputFault::Alphabet(fault) => {
                 labelled(alloc, b"alphabet: ", fault.words(alloc)?.as_bytes())

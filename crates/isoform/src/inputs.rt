@@ -11,6 +11,7 @@ ghost use Rattle.candidates.specs.Grounds.{IsGround};
 ghost use Rattle.isoform.specs.Asked.{asks_file};
 ghost use Rattle.isoform.specs.Inputs.{IsMz};
 ghost use Rattle.isoform.specs.Outside.{IsPart, shelved};
+ghost use Rattle.isoform.specs.RankSteps.{peak_list_in, peak_list_step};
 ghost use Rattle.isoform.specs.Refusals.{GivesInput};
 ghost use Rattle.isoform.specs.Steps.{adduct_step, alphabet_step, certificate_in, certificate_step, ground_step};
 ghost use Rattle.isoform.specs.Steps.{mzs_in, peaks_names, peaks_step};
@@ -28,7 +29,7 @@ use element_table::{Table, read_table};
 use golden_rules::{Rules, golden, read_rules};
 use mass_scaling::Tolerance;
 use outside_ports::{FetchFault, Shelf};
-use peak_text::read_peaks;
+use peak_text::{Peaks, read_peaks};
 use std::alloc::Global;
 
 /// The most bytes of a file of elements, of a tracer, of peaks or of rules: 16,777,216.
@@ -132,6 +133,23 @@ pub fn peaks_of<H: Shelf>(
         }
         (None, None) => Ok(Vec::new(alloc)),
     }
+}
+
+/// The peaks that bytes are.
+fn peak_list_in(alloc: Global, bytes: &[u8]) -> Result<Peaks, Refusal>
+    ensures { GivesInput (λ peaks. peaks) (peak_list_in bytes.now) result }
+{
+    Ok(read_peaks(alloc, bytes)?)
+}
+
+/// The peaks of a file.
+pub fn peak_list_of<H: Shelf>(alloc: Global, name: &Word, shelf: &mut H) -> Result<Peaks, Refusal>
+    ensures { IsPart (λ peaks. peaks) (name.now ∷ []) (peak_list_step name.now)
+        (shelved (H.held shelf.old) (H.asked shelf.old) (H.faults shelf.old))
+        (shelved (H.held shelf.new) (H.asked shelf.new) (H.faults shelf.new)) result }
+{
+    let bytes = fetch_file(alloc, name, MAX_FILE_BYTES, shelf)?;
+    peak_list_in(alloc, &bytes)
 }
 
 /// The alphabet that a text is.

@@ -8,7 +8,8 @@
 //! stands on `command_words` for its words, on `element_table`, `peak_text`, `alphabet_text`, `adducts`,
 //! `golden_rules` and `formula_text` for what it reads, on `candidates` for the formulas of a peak, on
 //! `cover_certificate` for the cover of an ion and its certificate, on `certificate_check` for the judgement of one, on
-//! `report_lines` for lines, and on `outside_ports` for its devices.
+//! `peak_ranking` for ranked peaks, on `peak_generator` for made ones, on `report_lines` and `report_text` for lines, and
+//! on `outside_ports` for its devices.
 //! Nothing stands above it. It gives out [`request_of`] and [`cover_of`] with their types too.
 #![tactic(auto)]
 
@@ -16,9 +17,11 @@ mod certified;
 mod check;
 mod decomposition;
 mod envelope;
+mod generation;
 mod input_fault;
 mod inputs;
 mod output;
+mod ranked_peaks;
 mod refusal;
 mod run;
 
@@ -29,7 +32,11 @@ mod certificate_tests;
 #[cfg(test)]
 mod envelope_tests;
 #[cfg(test)]
+mod json_tests;
+#[cfg(test)]
 mod option_tests;
+#[cfg(test)]
+mod ranking_tests;
 #[cfg(test)]
 mod rows;
 #[cfg(test)]

@@ -5,9 +5,11 @@ ghost use Rattle.outside_ports.specs.Faults.{Rose};
 ghost use Rattle.mass_scaling.specs.Limits.{IsTolerance};
 ghost use Rattle.mass_scaling.specs.declared.limits.TheConstants.{MAX_MZ};
 ghost use Rattle.command_words.specs.Requests.{HasRanges, IsWithin};
-ghost use Rattle.command_words.specs.declared.options.TheConstants.{MAX_COVERAGE, MIN_COVERAGE, MIN_MZ};
+ghost use Rattle.command_words.specs.declared.options.TheConstants.{MAX_COVERAGE, MAX_NUMBER, MAX_PEAK, MIN_COVERAGE};
+ghost use Rattle.command_words.specs.declared.options.TheConstants.{MIN_MZ, MIN_PEAK};
 ghost use Rattle.command_words.specs.WordReading.{request_of};
-ghost use Rattle.isoform.specs.Answer.{Certified, Checked, Cover, Formulas, IsReport, answer, answer_of_request};
+ghost use Rattle.isoform.specs.Answer.{Certified, Checked, Generates, IsReport, cover_in, formulas_in, ranks_in};
+ghost use Rattle.isoform.specs.Answer.{answer, answer_of_request};
 ghost use Rattle.isoform.specs.Answer.{certified_query, check_names, check_query, decompose_names, decompose_query};
 ghost use Rattle.isoform.specs.Answer.{envelope_names, envelope_query, file_names, names_of_request};
 ghost use Rattle.isoform.specs.Asked.{asked_as};
@@ -16,32 +18,42 @@ ghost use Rattle.isoform.specs.Claims.{Holds};
 ghost use Rattle.isoform.specs.Notes.{note_of, status_of};
 ghost use Rattle.isoform.specs.Outside.{EndsAs, IsPut, IsTold, ReceivesAll, ReceivesSomeOf, RefusesWords};
 ghost use Rattle.isoform.specs.Outside.{Runs, Serves, Shows, TellsLastName, TellsNote, outside, status_of_answer};
+ghost use Rattle.isoform.specs.RankAnswers.{generate_names, generate_query, rank_names, rank_query};
 ghost use Rattle.isoform.specs.declared.refusal.Refusal.TheVariants.{Memory, WriteFault};
 
 use crate::certified::CertifiedCover;
 use crate::check::{Check, CheckOptions};
 use crate::decomposition::{DecomposeOptions, Decomposition};
 use crate::envelope::{Envelope, EnvelopeOptions};
+use crate::generation::{GenerateOptions, Generation};
+use crate::ranked_peaks::{
+    RankOptions, ranked_peaks, read_ranking, write_ranking, write_ranking_json,
+};
 use crate::refusal::{MEMORY_NOTE, Refusal, WRITE_FAULT_NOTE};
 use command_words::{Request, request_of};
 use outside_ports::{Shelf, Sink};
+use prediction_score::PeakOrder;
 use std::alloc::{AllocError, Global};
 
 /// Serves `decompose`: reads what it is over, and writes its report or says why there is none.
 fn serve_decompose<H: Shelf, O: Sink>(
     alloc: Global,
     options: &DecomposeOptions,
+    json: bool,
     shelf: &mut H,
     out: &mut O,
 ) -> Result<(), Refusal>
     requires mass { IsWithin MIN_MZ MAX_MZ options.now.mass }
     requires tolerance { IsTolerance options.now.tolerance }
-    ensures { Serves (decompose_names options.now) (λ files. asked_as Formulas (decompose_query options.now files))
+    ensures { Serves (decompose_names options.now) (λ files. asked_as (formulas_in json) (decompose_query options.now files))
         (H.held shelf.old) (H.held shelf.new)
         (outside (H.asked shelf.old) (H.faults shelf.old) (O.written out.old) (O.faults out.old))
         (outside (H.asked shelf.new) (H.faults shelf.new) (O.written out.new) (O.faults out.new)) result }
 {
     let decomposition = Decomposition::read(alloc, options, shelf)?;
+    if json {
+        return decomposition.write_json(alloc, out);
+    }
     decomposition.write(alloc, out)
 }
 
@@ -49,17 +61,21 @@ fn serve_decompose<H: Shelf, O: Sink>(
 fn serve_envelope<H: Shelf, O: Sink>(
     alloc: Global,
     options: &EnvelopeOptions,
+    json: bool,
     shelf: &mut H,
     out: &mut O,
 ) -> Result<(), Refusal>
     requires from { MIN_COVERAGE ≤ options.now.coverage }
     requires to { options.now.coverage ≤ MAX_COVERAGE }
-    ensures { Serves (envelope_names options.now) (λ files. asked_as Cover (envelope_query options.now files))
+    ensures { Serves (envelope_names options.now) (λ files. asked_as (cover_in json) (envelope_query options.now files))
         (H.held shelf.old) (H.held shelf.new)
         (outside (H.asked shelf.old) (H.faults shelf.old) (O.written out.old) (O.faults out.old))
         (outside (H.asked shelf.new) (H.faults shelf.new) (O.written out.new) (O.faults out.new)) result }
 {
     let envelope = Envelope::read(alloc, options, shelf)?;
+    if json {
+        return envelope.write_json(alloc, out);
+    }
     envelope.write(alloc, out)
 }
 
@@ -97,6 +113,53 @@ fn serve_check<H: Shelf, O: Sink>(
     check.write(alloc, out)
 }
 
+/// Serves `rank`. All jobs have their turns before the first line is put.
+fn serve_rank<H: Shelf, O: Sink>(
+    alloc: Global,
+    options: &RankOptions,
+    json: bool,
+    shelf: &mut H,
+    out: &mut O,
+) -> Result<(), Refusal>
+    requires tolerance { IsTolerance options.now.tolerance }
+    requires from { MIN_COVERAGE ≤ options.now.coverage }
+    requires to { options.now.coverage ≤ MAX_COVERAGE }
+    requires peak { IsWithin MIN_PEAK MAX_PEAK options.now.peak }
+    requires turn { 1 ≤ options.now.turn }
+    ensures { Serves (rank_names options.now) (λ files. asked_as (ranks_in json) (rank_query options.now files))
+        (H.held shelf.old) (H.held shelf.new)
+        (outside (H.asked shelf.old) (H.faults shelf.old) (O.written out.old) (O.faults out.old))
+        (outside (H.asked shelf.new) (H.faults shelf.new) (O.written out.new) (O.faults out.new)) result }
+{
+    let ranking = read_ranking(alloc, options, shelf)?;
+    let order = PeakOrder::of(alloc, ranking.peaks())?;
+    let ranked = ranked_peaks(alloc, &ranking, &order)?;
+    if json {
+        return write_ranking_json(alloc, &ranking, &ranked, out);
+    }
+    write_ranking(alloc, &ranking, &ranked, out)
+}
+
+/// Serves `generate` in the same way.
+fn serve_generate<H: Shelf, O: Sink>(
+    alloc: Global,
+    options: &GenerateOptions,
+    shelf: &mut H,
+    out: &mut O,
+) -> Result<(), Refusal>
+    requires { options.now.number ≤ MAX_NUMBER }
+    ensures { Serves (generate_names options.now) (λ files. asked_as Generates (generate_query options.now files))
+        (H.held shelf.old) (H.held shelf.new)
+        (outside (H.asked shelf.old) (H.faults shelf.old) (O.written out.old) (O.faults out.old))
+        (outside (H.asked shelf.new) (H.faults shelf.new) (O.written out.new) (O.faults out.new)) result }
+{
+    let generation = Generation::read(alloc, options, shelf)?;
+    let ranking = generation.ranking();
+    let order = PeakOrder::of(alloc, ranking.peaks())?;
+    let ranked = ranked_peaks(alloc, ranking, &order)?;
+    generation.write(alloc, &ranked, out)
+}
+
 /// Serves a request.
 fn serve_request<H: Shelf, O: Sink>(
     alloc: Global,
@@ -120,6 +183,7 @@ fn serve_request<H: Shelf, O: Sink>(
             rules,
             limit,
             after,
+            json,
         } => {
             let options = DecomposeOptions {
                 table,
@@ -132,7 +196,7 @@ fn serve_request<H: Shelf, O: Sink>(
                 limit,
                 after,
             };
-            serve_decompose(alloc, &options, shelf, out)
+            serve_decompose(alloc, &options, json, shelf, out)
         }
         Request::Envelope {
             table,
@@ -141,6 +205,7 @@ fn serve_request<H: Shelf, O: Sink>(
             formula,
             coverage,
             certificate,
+            json,
         } => {
             let options = EnvelopeOptions {
                 table,
@@ -152,7 +217,7 @@ fn serve_request<H: Shelf, O: Sink>(
             if certificate {
                 return serve_certified(alloc, &options, shelf, out);
             }
-            serve_envelope(alloc, &options, shelf, out)
+            serve_envelope(alloc, &options, json, shelf, out)
         }
         Request::Check {
             table,
@@ -165,6 +230,39 @@ fn serve_request<H: Shelf, O: Sink>(
                 certificate,
             };
             serve_check(alloc, &options, shelf, out)
+        }
+        Request::Rank {
+            table,
+            tracer,
+            peaks,
+            tolerance,
+            alphabet,
+            adduct,
+            rules,
+            coverage,
+            peak,
+            turn,
+            turns,
+            json,
+        } => {
+            let options = RankOptions {
+                table,
+                tracer,
+                peaks,
+                tolerance,
+                alphabet,
+                adduct,
+                rules,
+                coverage,
+                peak,
+                turn,
+                turns,
+            };
+            serve_rank(alloc, &options, json, shelf, out)
+        }
+        Request::Generate { table, number } => {
+            let options = GenerateOptions { table, number };
+            serve_generate(alloc, &options, shelf, out)
         }
     }
 }
@@ -218,12 +316,13 @@ fn tell<M: Sink>(note: &[u8], notes: &mut M)
 
 /// Runs the program on the words behind its name, and answers its exit status.
 ///
-/// Status 0: the report was written. 1: the certificate isn't accepted. 2: the words are no request, or a value is outside
-/// its range. 3: the table or the tracer has a fault. 4: the peaks have one. 5: the alphabet, the adduct, the rules, the
-/// formula after which a list is to begin, the formula or the text of the certificate has one, that formula isn't in the
-/// box, or the ion isn't defined. 6: a file is longer than 16,777,216 bytes, that of a certificate longer than
-/// 268,435,456, a peak has more than 1,048,576 formulas where no number of them is asked for, the ion has too many
-/// isotopologues, or the text of its certificate is longer than the file of one may be. 7: a file could not be read. 8: the report could not be written. 9: want of memory.
+/// Status 0: the report was written. 1: the certificate isn't accepted. 2: the words are no request, or a value is
+/// outside its range. 3: the table or the tracer has a fault. 4: the peaks have one, or none has the number asked for.
+/// 5: the alphabet, the adduct, the rules, the formula after which a list is to begin, the formula or the text of the
+/// certificate has one, that formula isn't in the box, or the ion isn't defined. 6: a file is longer than 16,777,216
+/// bytes, that of a certificate longer than 268,435,456, a peak has more than 1,048,576 formulas where no number of
+/// them is asked for, the ion has too many isotopologues, or the text of its certificate is longer than the file of one
+/// may be. 7: a file could not be read. 8: the report could not be written. 9: want of memory.
 /// With every status but 0 the notes receive one line.
 pub fn run<H: Shelf, O: Sink, M: Sink>(
     alloc: Global,
@@ -245,7 +344,8 @@ pub fn run<H: Shelf, O: Sink, M: Sink>(
 
     // Its parts, each to be read alone. Status 0: `out` received the report, and what it claims holds: the formulas of
     // `decompose` are those of each peak, each once and in order; the isotopologues of `envelope` have the coverage in
-    // exact weights, and no set with fewer members than its bound has it.
+    // exact weights, and no set with fewer members than its bound has it; those that `rank` ranks of a peak are the first
+    // of exactly its formulas, as many as its turns allow.
     ensures reported { result ≡ 0 → IfSome (H.held shelf.old) (λ files.
         IsOkAnd (answer (map string_bytes words.now.items) files).result (λ outcome.
         ReceivesAll outcome (O.written out.old) (O.written out.new) × Holds outcome)) }

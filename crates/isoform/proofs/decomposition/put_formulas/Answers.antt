@@ -24,8 +24,8 @@ returns-in_err-push_line g c =
     (first_of c.formulas.most (counts_left c.formulas.candidates)) (first_of c.args.limit (counts_left old)) _ _ _ _
     c.formulas.invariant.1 c.formulas.invariant.2)
 
-pub returns-in_err-put_text : goal.returns-in_err-put_text
-returns-in_err-put_text g c =
+pub returns-in_err-put_line : goal.returns-in_err-put_line
+returns-in_err-put_line g c =
     let old = c.args.candidates.now in
     let line = line_at old.premises old.mz in
     let new = c.advance.new.self in
@@ -36,15 +36,15 @@ returns-in_err-put_text g c =
     c.deref.ensures.value ∙ c.in_ok-push_line.ensures.line ∙ ap (λ (t : List ℕ). t ++ given_line new) c.clear.ensures.items
     ∙ given_line-is new old.premises old.mz next.0 (c.advance.ensures.premises ∙ c.formulas.invariant.3)
     (c.advance.ensures.peak ∙ c.formulas.invariant.4) next.1 in
-    let given = err_from_is_err_and c.from_residual-in_err-put_text.result c.from_residual-in_err-put_text.ensures.1 in
+    let given = err_from_is_err_and c.from_residual-in_err-put_line.result c.from_residual-in_err-put_line.ensures.1 in
     rw (given.1, given.2)
     (subst (λ (ls : List (List ℕ)). Puts (flat_map line ls) (g.O.Sink.written c.args.out.now)
-    (g.O.Sink.written c.put_text.new.out) (g.O.Sink.faults c.args.out.now) (g.O.Sink.faults c.put_text.new.out)
-    (Err c.in_err-put_text.field-0.0))
+    (g.O.Sink.written c.put_line.new.out) (g.O.Sink.faults c.args.out.now) (g.O.Sink.faults c.put_line.new.out)
+    (Err c.in_err-put_line.field-0.0))
     (page_parts done (counts_left c.formulas.candidates) (counts_left new) (first_of c.args.limit (counts_left old))
     most next.0 next.2 (c.formulas-test.ensures.0 refl) c.formulas.invariant.1)
     (line_not_put line done (first_of (one_less most) (counts_left new)) next.0 c.deref.result.now
-    _ _ _ _ _ _ _ text c.formulas.invariant.2 c.in_err-put_text.ensures))
+    _ _ _ _ _ _ _ text c.formulas.invariant.2 c.in_err-put_line.ensures))
 
 pub formulas-preserved : goal.formulas-preserved
 formulas-preserved g c =
@@ -63,7 +63,7 @@ formulas-preserved g c =
           ∙ page_next done (counts_left c.formulas.candidates) (counts_left new)
           (first_of c.args.limit (counts_left old)) most next.0 next.2 (c.formulas-test.ensures.0 refl)
           c.formulas.invariant.1,
-      line_put line done next.0 c.deref.result.now _ _ _ _ _ _ text c.formulas.invariant.2 c.in_ok-put_text.ensures,
+      line_put line done next.0 c.deref.result.now _ _ _ _ _ _ text c.formulas.invariant.2 c.in_ok-put_line.ensures,
       c.advance.ensures.premises ∙ c.formulas.invariant.3,
       c.advance.ensures.peak ∙ c.formulas.invariant.4,
     )

@@ -42,10 +42,10 @@ loop-place-preserved g c =
     ∙ ap (isotopologue_line c.args.shift) (member_at cover i none inside) in
     simp to_z-of_z
     (subst (λ (ms : List MemberEntry). Puts (flat_map (isotopologue_line c.args.shift) ms) (g.O.Sink.written c.args.out.now)
-    (g.O.Sink.written c.put_text.new.out) (g.O.Sink.faults c.args.out.now) (g.O.Sink.faults c.put_text.new.out) (Ok tt))
+    (g.O.Sink.written c.put_line.new.out) (g.O.Sink.faults c.args.out.now) (g.O.Sink.faults c.put_line.new.out) (Ok tt))
     one_more
     (line_put (isotopologue_line c.args.shift) (take i members) member c.deref.result.now _ _ _ _ _ _ text
-    (simp to_z-of_z at c.loop-place.invariant) c.in_ok-put_text.ensures))
+    (simp to_z-of_z at c.loop-place.invariant) c.in_ok-put_line.ensures))
 
 pub returns-in_err-write_member : goal.returns-in_err-write_member
 returns-in_err-write_member g c =
@@ -56,15 +56,15 @@ returns-in_err-write_member g c =
     (drop c.loop-place.place (cover_members c.args.cover.now)) (cover_members c.args.cover.now) _ _ _ _
     (take-append-drop c.loop-place.place (cover_members c.args.cover.now)) (simp to_z-of_z at c.loop-place.invariant))
 
-pub returns-in_err-put_text : goal.returns-in_err-put_text
-returns-in_err-put_text g c =
+pub returns-in_err-put_line : goal.returns-in_err-put_line
+returns-in_err-put_line g c =
     let fits : SFits w128 c.args.shift = c.ranges.shift in
     let cover = c.args.cover.now in
     let members : List MemberEntry = cover_members cover in
     let i = c.loop-place.place in
     let inside : i < cover.size = omega (arith, c.loop-place-test.true, c.size-place-end.ensures.size) in
     let member : MemberEntry = get_or members i none in
-    let given = err_from_is_err_and c.from_residual-in_err-put_text.result c.from_residual-in_err-put_text.ensures.1 in
+    let given = err_from_is_err_and c.from_residual-in_err-put_line.result c.from_residual-in_err-put_line.ensures.1 in
     let text : c.deref.result.now ≡ isotopologue_line c.args.shift member =
     c.deref.ensures.value ∙ (simp to_z-of_z at c.in_ok-write_member.ensures none)
     ∙ ap (isotopologue_line c.args.shift) (member_at cover i none inside) in
@@ -76,11 +76,11 @@ returns-in_err-put_text g c =
     ∙ take-append-drop (i + 1) members in
     rw (given.1, given.2)
     (subst (λ (ms : List MemberEntry). Puts (flat_map (isotopologue_line c.args.shift) ms) (g.O.Sink.written c.args.out.now)
-    (g.O.Sink.written c.put_text.new.out) (g.O.Sink.faults c.args.out.now) (g.O.Sink.faults c.put_text.new.out)
-    (Err c.in_err-put_text.field-0.0))
+    (g.O.Sink.written c.put_line.new.out) (g.O.Sink.faults c.args.out.now) (g.O.Sink.faults c.put_line.new.out)
+    (Err c.in_err-put_line.field-0.0))
     all
     (line_not_put (isotopologue_line c.args.shift) (take i members) (drop (i + 1) members) member c.deref.result.now _ _ _ _ _ _ _ text
-    (simp to_z-of_z at c.loop-place.invariant) c.in_err-put_text.ensures))
+    (simp to_z-of_z at c.loop-place.invariant) c.in_err-put_line.ensures))
 
 pub returns : goal.returns
 returns g c =
