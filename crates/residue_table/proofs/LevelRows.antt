@@ -74,7 +74,7 @@ module _ (modulus : ℕ) (some : 1 ≤ modulus) where
         rw (row_length, multiple) (omega (arith, at_zero));
   }
 
-slice_get_push : {X : Type 0} (xs : List X) (y x : X) (place : ℕ) → slice_get (xs ++ y ∷ []) place ≡ Some x →
+pub slice_get_push : {X : Type 0} (xs : List X) (y x : X) (place : ℕ) → slice_get (xs ++ y ∷ []) place ≡ Some x →
     (slice_get xs place ≡ Some x) ⊎ ((place ≡ length xs) × (y ≡ x))
 slice_get_push [] y x zero e = inr (refl, cc)
 slice_get_push [] y x (suc place) e = absurd (cc)

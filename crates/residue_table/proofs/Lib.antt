@@ -3,3 +3,4 @@ pub mod CarriedRows
 pub mod ProbedRows
 pub mod LevelRows
 pub mod RunMinima
+pub mod RunSpans

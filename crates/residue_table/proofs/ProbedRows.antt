@@ -1,9 +1,10 @@
 -- A part of a row that is looked through answers for a range of numbers, and rows answer for sums.
 use Rattle.std.proofs.Common.{◌≡◌, ℕ, ◌+◌, ◌-◌, ◌*◌, ◌/◌, ◌%◌, ◌^◌, ◌<◌, ◌≤◌, ◌↔◌, min, List, length, get_or, Option, Some, None, ap, arith, sym, subst, refl, ◌∙◌}
-use Rattle.std.specs.Prelude.{IfSome, IsNone}
+use Rattle.std.specs.Prelude.{Bool, true, false, IfSome, IsNone, IsTrue}
+use Rattle.std.specs.Bool.{OnTrue, OnFalse}
 use Rattle.std.proofs.lemmas.Nat.{div-add-mod', mod-mul-add, mod_below}
-use Rattle.residue_table.specs.Sums.{IsSum, IsLeastIn, HoldsNowhereIn}
-use Rattle.residue_table.specs.Rows.{IsFirstPlace, IsReached, IsRow, NoneReached}
+use Rattle.residue_table.specs.Sums.{IsSum, IsLeastIn, HoldsNowhereIn, HoldsSomewhereIn}
+use Rattle.residue_table.specs.Rows.{IsFirstPlace, IsReached, IsRow, IsSomeReached, NoneReached}
 
 module _ (entries : List ℕ) (lo residue : ℕ) (is : residue ≡ lo % length entries) (some : 1 ≤ length entries) where
   within : residue < length entries
@@ -46,25 +47,53 @@ module _ (entries : List ℕ) (lo residue : ℕ) (is : residue ≡ lo % length e
             (λ k start end. first.none_before k start (omega (arith, e))) other from less;
       }
 
-  -- where none is before the next multiple of the modulus, that is the least
-  pub at_multiple : (hi : ℕ) → get_or entries 0 0 ≡ 0 → length entries - residue ≤ hi - lo → lo ≤ hi →
-      NoneReached entries residue (residue + (length entries - residue)) lo →
-      IsLeastIn (IsReached entries) lo hi (lo + (length entries - residue))
-  at_multiple hi from_zero reach ordered none =
+  -- the next multiple of the modulus is reached
+  pub multiple_reached : get_or entries 0 0 ≡ 0 → IsReached entries (lo + (length entries - residue))
+  multiple_reached from_zero =
       let whole : lo / length entries * length entries + residue ≡ lo = rw is (div-add-mod' lo (length entries)) in
       let multiple : (lo + (length entries - residue)) % length entries ≡ 0 =
       ap (λ (z : ℕ). z % length entries) (omega (arith, whole, within))
       ∙ mod-mul-add (lo / length entries + 1) (length entries) 0 some in
+      rw multiple (omega (arith, from_zero))
+
+  -- where none is before it, it is the least
+  pub at_multiple : (hi : ℕ) → get_or entries 0 0 ≡ 0 → length entries - residue ≤ hi - lo → lo ≤ hi →
+      NoneReached entries residue (residue + (length entries - residue)) lo →
+      IsLeastIn (IsReached entries) lo hi (lo + (length entries - residue))
+  at_multiple hi from_zero reach ordered none =
       record {
         not_below = omega arith;
         not_above = omega (arith, reach, ordered);
-        holds = rw multiple (omega (arith, from_zero));
+        holds = multiple_reached from_zero;
         none_before = none_to (length entries - residue) (omega (arith, within)) none;
       }
 
   pub nowhere : (hi number : ℕ) → residue + number ≤ length entries → hi < lo + number →
       NoneReached entries residue (residue + number) lo → HoldsNowhereIn (IsReached entries) lo hi
   nowhere hi number room reach none value from to = none_to number room none value from (omega arith)
+
+  -- whether a number is reached before the next multiple of the modulus
+  pub somewhere : (hi last : ℕ) (r : Bool) → lo ≤ hi → last ≡ residue + (hi - lo) → last < length entries →
+      OnTrue r (IsSomeReached entries residue (last + 1) lo) →
+      OnFalse r (NoneReached entries residue (last + 1) lo) → IsTrue r ↔ HoldsSomewhereIn (IsReached entries) lo hi
+  somewhere hi last true ordered is_last room found none = (
+    λ h.
+        let before = found.0 - residue in
+        let e : residue + before ≡ found.0 = omega (arith, found.1) in
+        let at_place : (lo + before) % length entries ≡ found.0 = residue_of before (omega (arith, found.2)) ∙ e in (
+          lo + before,
+          omega arith,
+          omega (arith, found.2, found.1, is_last, ordered),
+          rw at_place (omega (arith, found.3, found.1)),
+        ),
+    λ h. refl,
+  )
+  somewhere hi last false ordered is_last room found none =
+      let number : residue + (hi - lo + 1) ≡ last + 1 = omega (arith, is_last) in
+      let nothing = nowhere hi (hi - lo + 1) (omega (arith, room)) (omega arith) (rw number none) in (
+        λ h. absurd (cc),
+        λ h. absurd (nothing h.0 h.1 h.2 h.3),
+      )
 
 -- what a row says of a range holds of sums
 module _ (masses entries : List ℕ) (row : IsRow masses entries) (lo hi : ℕ) (small : hi < 2 ^ 63) where
@@ -87,6 +116,13 @@ module _ (masses entries : List ℕ) (row : IsRow masses entries) (lo hi : ℕ) 
   none_of_row (Some value) least none = (
     λ h. absurd (cc),
     λ h. absurd (h value least.not_below least.not_above (least_sum value least).holds),
+  )
+
+  pub somewhere_of_row : (r : Bool) → IsTrue r ↔ HoldsSomewhereIn (IsReached entries) lo hi →
+      IsTrue r ↔ HoldsSomewhereIn (IsSum masses) lo hi
+  somewhere_of_row r h = (
+    λ t. let found = h.0 t in (found.0, found.1, found.2, row.sound found.0 (omega (arith, found.2)) found.3),
+    λ found. h.1 (found.0, found.1, found.2, row.complete found.0 found.3),
   )
 
 -- the same, where the modulus is known to be the row's length

@@ -1,7 +1,8 @@
 -- For proofs alone: the row of a level, which has an entry for each residue of the modulus. An entry is the least
 -- number of its residue that the level reaches. Where there is none it is one that no number asked for comes up to.
-use Rattle.std.specs.Prelude.{◌≡◌, ℕ, ◌+◌, ◌-◌, ◌*◌, ◌/◌, ◌%◌, ◌<◌, ◌≤◌, List, length, drop, slice_index, slice_get, Some}
+use Rattle.std.specs.Prelude.{◌≡◌, ℕ, ◌+◌, ◌-◌, ◌*◌, ◌/◌, ◌%◌, ◌^◌, ◌<◌, ◌≤◌, List, length, drop, slice_index, slice_get, Some}
 use Rattle.residue_table.specs.declared.rows.Row.{Row}
+use Rattle.residue_table.specs.declared.spans.Spans.{Spans}
 use Rattle.residue_table.specs.declared.rows.TheConstants.{UNREACHED, RUN}
 use Rattle.residue_table.specs.Sums.{AreScaled, IsSum, modulus_of}
 
@@ -31,6 +32,25 @@ pub record IsRow (masses entries : List ℕ) : Type 0 where
 abbrev pub BoundsRuns : List ℕ → List ℕ → Type 0
 BoundsRuns minima entries = (k : ℕ) → k < length entries → slice_index minima (k / RUN) ≤ slice_index entries k
 
+-- the least of the entries of a part of a row, as far as it goes
+pub record IsLeastOf (entries : List ℕ) (start stop least : ℕ) : Type 0 where
+  pub at_most : (k : ℕ) → start ≤ k → k < stop → k < length entries → least ≤ slice_index entries k
+  pub place : ℕ
+  pub from_start : start ≤ place
+  pub to_stop : place < stop
+  pub within : place < length entries
+  pub at_least : slice_index entries place ≤ least
+
+-- for each run the minimum of so many runs from it on
+abbrev pub AreRunMinima : List ℕ → ℕ → List ℕ → Type 0
+AreRunMinima entries number minima = (run : ℕ) → run < length minima →
+    IsLeastOf entries (run * RUN) ((run + number) * RUN) (slice_index minima run)
+
+-- the minima of spans of each power of two runs
+abbrev pub AreSpans : List ℕ → ℕ → List Spans → Type 0
+AreSpans entries runs spans = (power : ℕ) (s : Spans) → slice_get spans power ≡ Some s →
+    (length s.minima.items ≡ runs) × AreRunMinima entries (2 ^ power) s.minima.items
+
 -- a row with the minima of its runs and those of the runs of these
 pub record IsIndexed (row : Row) : Type 0 where
   pub some : 1 ≤ length row.entries.items
@@ -38,6 +58,7 @@ pub record IsIndexed (row : Row) : Type 0 where
   pub bounds : BoundsRuns row.minima.items row.entries.items
   pub groups : length row.minima.items ≤ RUN * length row.group_minima.items
   pub bounds_groups : BoundsRuns row.group_minima.items row.minima.items
+  pub spans : AreSpans row.entries.items (length row.minima.items) row.spans.items
   pub from_zero : slice_index row.entries.items 0 ≡ 0
 
 -- the rows of the levels from 1 on, as many as there are
@@ -64,3 +85,8 @@ pub record IsFirstPlace (entries : List ℕ) (start end from place : ℕ) : Type
 -- no number of that part is reached
 abbrev pub NoneReached : List ℕ → ℕ → ℕ → ℕ → Type 0
 NoneReached entries start end from = (k : ℕ) → start ≤ k → k < end → from + k < slice_index entries k + start
+
+-- a number of that part is reached
+abbrev pub IsSomeReached : List ℕ → ℕ → ℕ → ℕ → Type 0
+IsSomeReached entries start end from =
+    (k : ℕ) × (start ≤ k) × (k < end) × (slice_index entries k + start ≤ from + k)

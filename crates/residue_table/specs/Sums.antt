@@ -36,3 +36,7 @@ pub record IsLeastIn (P : ℕ → Type 0) (lo hi value : ℕ) : Type 0 where
 -- nothing of a range is reached, both ends included
 abbrev pub HoldsNowhereIn : (ℕ → Type 0) → ℕ → ℕ → Type 0
 HoldsNowhereIn P lo hi = (value : ℕ) → lo ≤ value → value ≤ hi → ¬ P value
+
+-- something of a range is reached, both ends included
+abbrev pub HoldsSomewhereIn : (ℕ → Type 0) → ℕ → ℕ → Type 0
+HoldsSomewhereIn P lo hi = (value : ℕ) × (lo ≤ value) × (value ≤ hi) × P value

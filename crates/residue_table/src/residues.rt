@@ -1,6 +1,6 @@
 //! Residue tables of scaled masses.
 ghost use Rattle.std.specs.Prelude.{◌≡◌, ℕ, List, ◌+◌, ◌^◌, ◌<◌, ◌≤◌, ◌↔◌, [], ◌∷◌, length, slice_index, IsTrue, IfOk, IfSome, IsNone};
-ghost use Rattle.residue_table.specs.Sums.{AreScaled, Reaches, IsLeastIn, HoldsNowhereIn};
+ghost use Rattle.residue_table.specs.Sums.{AreScaled, Reaches, IsLeastIn, HoldsNowhereIn, HoldsSomewhereIn};
 ghost use Rattle.residue_table.specs.Rows.{AreLimited, AreRows, IsRow};
 
 use crate::round_robin::add_mass;
@@ -85,6 +85,28 @@ impl Residues {
             return if lo == 0 { Some(0) } else { None };
         }
         self.rows[level - 1].first_in(lo, hi)
+    }
+
+    /// Whether a number from `lo` to `hi` is a sum of whole multiples of the last `level` masses. It adds exactly one
+    /// step. Takes no memory.
+    pub fn reaches_in<L: Ledger>(
+        &self,
+        level: usize,
+        lo: u64,
+        hi: u64,
+        steps: &mut Steps<L>,
+    ) -> bool
+        requires level { level ≤ length self.now }
+        requires ordered { lo ≤ hi }
+        requires range { hi < 2 ^ 63 }
+        ensures reaches { IsTrue result ↔ HoldsSomewhereIn (Reaches self.now level) lo hi }
+        ensures one_step { steps.new ≡ steps.old + 1 }
+    {
+        steps.tick();
+        if level == 0 {
+            return lo == 0;
+        }
+        self.rows[level - 1].reaches_in(lo, hi)
     }
 }
 

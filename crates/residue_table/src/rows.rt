@@ -1,8 +1,10 @@
 //! The row of one level, and its probes.
 ghost use Rattle.std.specs.Prelude.{◌≡◌, ℕ, ◌+◌, ◌*◌, ◌/◌, ◌^◌, ◌<◌, ◌≤◌, ◌↔◌, length, slice_index, IsTrue, IsNone, IfSome, IfOk, EachIndex};
-ghost use Rattle.residue_table.specs.Sums.{IsLeastIn, HoldsNowhereIn};
-ghost use Rattle.residue_table.specs.Rows.{BoundsRuns};
+ghost use Rattle.std.specs.Bool.{OnTrue, OnFalse};
+ghost use Rattle.residue_table.specs.Sums.{IsLeastIn, HoldsNowhereIn, HoldsSomewhereIn};
+ghost use Rattle.residue_table.specs.Rows.{AreRunMinima, BoundsRuns};
 
+use crate::spans::{Spans, spans_of};
 use lane_scan::first_reached;
 use std::alloc::{AllocError, Global};
 
@@ -19,10 +21,12 @@ pub(crate) struct Row {
     pub(crate) entries: Vec<u64>,
     pub(crate) minima: Vec<u64>,
     pub(crate) group_minima: Vec<u64>,
+    /// The minima of spans of runs, by which most probes tell at once whether anything is reached.
+    pub(crate) spans: Vec<Spans>,
 }
 
 impl Row {
-    ghost use Rattle.residue_table.specs.Rows.{IsFirstPlace, IsIndexed, IsReached, NoneReached};
+    ghost use Rattle.residue_table.specs.Rows.{IsFirstPlace, IsIndexed, IsLeastOf, IsReached, IsSomeReached, NoneReached};
 
     /// The row of these entries.
     pub(crate) fn of(alloc: Global, entries: Vec<u64>) -> Result<Row, AllocError>
@@ -33,10 +37,12 @@ impl Row {
     {
         let minima = minima_of(alloc, &entries)?;
         let group_minima = minima_of(alloc, &minima)?;
+        let spans = spans_of(alloc, &minima)?;
         Ok(Row {
             entries,
             minima,
             group_minima,
+            spans,
         })
     }
 
@@ -69,6 +75,85 @@ impl Row {
             None if to_multiple <= hi - lo => Some(lo + to_multiple),
             None => None,
         }
+    }
+
+    /// Whether the level reaches a number from `lo` to `hi`.
+    ///
+    /// Most entries are far below or above the range, so the minima of spans nearly always tell.
+    pub(crate) fn reaches_in(&self, lo: u64, hi: u64) -> bool
+        requires indexed { IsIndexed self.now }
+        requires ordered { lo ≤ hi }
+        requires range { hi < 2 ^ 63 }
+        requires modulus { length self.now.entries.items ≤ 2 ^ 62 }
+        ensures { IsTrue result ↔ HoldsSomewhereIn (IsReached self.now.entries.items) lo hi }
+    {
+        let modulus = self.entries.len() as u64;
+        let residue = lo % modulus;
+        if modulus - residue <= hi - lo {
+            return true;
+        }
+        let start = residue as usize;
+        self.reaches_between(start, start + (hi - lo) as usize, lo)
+    }
+
+    /// Whether a number of the places from `start` to `last` is reached; that of `start` is `from`.
+    fn reaches_between(&self, start: usize, last: usize, from: u64) -> bool
+        requires indexed { IsIndexed self.now }
+        requires ordered { start ≤ last }
+        requires within { last < length self.now.entries.items }
+        requires range { from + 2 * length self.now.entries.items < 2 ^ 64 }
+        ensures some { OnTrue result (IsSomeReached self.now.entries.items start (last + 1) from) }
+        ensures none { OnFalse result (NoneReached self.now.entries.items start (last + 1) from) }
+    {
+        if self.has_none_to(start, last, from + (last - start) as u64) {
+            return false;
+        }
+        self.has_some_to(start, last, from) || self.first_between(start, last + 1, from).is_some()
+    }
+
+    /// Whether the spans tell that no entry from `start` to `last` is at most `highest`.
+    fn has_none_to(&self, start: usize, last: usize, highest: u64) -> bool
+        requires indexed { IsIndexed self.now }
+        requires ordered { start ≤ last }
+        requires within { last < length self.now.entries.items }
+        ensures { OnTrue result ((k : ℕ) → start ≤ k → k ≤ last → highest < slice_index self.now.entries.items k) }
+    {
+        match self.least_of_runs(start / RUN, last / RUN + 1) {
+            Some(least) => highest < least,
+            None => false,
+        }
+    }
+
+    /// Whether the spans tell that an entry from `start` to `last` is at most `limit`.
+    fn has_some_to(&self, start: usize, last: usize, limit: u64) -> bool
+        requires indexed { IsIndexed self.now }
+        requires ordered { start ≤ last }
+        requires within { last < length self.now.entries.items }
+        ensures { OnTrue result ((place : ℕ) × (start ≤ place) × (place ≤ last)
+            × (slice_index self.now.entries.items place ≤ limit)) }
+    {
+        let first = start.div_ceil(RUN);
+        let stop = (last + 1) / RUN;
+        if stop <= first {
+            return false;
+        }
+        match self.least_of_runs(first, stop) {
+            Some(least) => least <= limit,
+            None => false,
+        }
+    }
+
+    /// The least entry of the runs from `start` on and before `stop`; None where no spans are long enough.
+    fn least_of_runs(&self, start: usize, stop: usize) -> Option<u64>
+        requires indexed { IsIndexed self.now }
+        requires some { start < stop }
+        requires within { stop ≤ length self.now.minima.items }
+        ensures { IfSome result (IsLeastOf self.now.entries.items (start * RUN) (stop * RUN)) }
+    {
+        let power = (stop - start).ilog2();
+        let longest = self.spans.get(power as usize)?;
+        let last = stop - (1 << power);
+        Some(longest.minima[start].min(longest.minima[last]))
     }
 
     /// The first place from `start` on and before `end` whose number is reached; that of `start` is `from`.
@@ -143,6 +228,7 @@ impl Row {
 fn minima_of(alloc: Global, numbers: &[u64]) -> Result<Vec<u64>, AllocError>
     ensures runs { IfOk result (λ minima. length numbers.now ≤ RUN * length minima.items) }
     ensures bounds { IfOk result (λ minima. BoundsRuns minima.items numbers.now) }
+    ensures least { IfOk result (λ minima. AreRunMinima numbers.now 1 minima.items) }
 {
     let mut minima = Vec::new(alloc);
     for run in 0..numbers.len().div_ceil(RUN) {
@@ -155,7 +241,8 @@ fn minima_of(alloc: Global, numbers: &[u64]) -> Result<Vec<u64>, AllocError>
 
 /// The least of some numbers, and 0 of none.
 fn least_of(numbers: &[u64]) -> u64
-    ensures { EachIndex numbers.now (λ k. result ≤ slice_index numbers.now k) }
+    ensures least { EachIndex numbers.now (λ k. result ≤ slice_index numbers.now k) }
+    ensures one { 1 ≤ length numbers.now → (k : ℕ) × (k < length numbers.now) × (slice_index numbers.now k ≤ result) }
 {
     numbers.iter().copied().min().unwrap_or(0)
 }

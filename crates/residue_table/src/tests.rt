@@ -33,6 +33,32 @@ fn probe(residues: &Residues, level: usize, lo: u64, hi: u64) -> Option<u64>
     probe_with::<Brand>(residues, level, lo, hi, Blank::new(1))
 }
 
+fn reaches_with<L: Ledger>(
+    residues: &Residues,
+    level: usize,
+    lo: u64,
+    hi: u64,
+    blank: Blank,
+) -> bool
+    requires name { blank.name ≡ L.name }
+    requires parts { blank.parts ≡ L.parts }
+    requires some { 0 < blank.parts }
+    requires level { level ≤ length residues.now }
+    requires ordered { lo ≤ hi }
+    requires range { hi < 2 ^ 63 }
+{
+    let mut steps = Steps::<L>::new(blank);
+    residues.reaches_in(level, lo, hi, &mut steps)
+}
+
+fn reaches(residues: &Residues, level: usize, lo: u64, hi: u64) -> bool
+    requires level { level ≤ length residues.now }
+    requires ordered { lo ≤ hi }
+    requires range { hi < 2 ^ 63 }
+{
+    reaches_with::<Brand>(residues, level, lo, hi, Blank::new(1))
+}
+
 #[test]
 fn sums_of_5_and_3_are_reached(rt: HostRuntime) -> Result<(), AllocError> {
     let residues = Residues::build(rt.alloc(), &[5, 3])?;
@@ -78,6 +104,23 @@ fn sums_of_oxygen_carbon_and_hydrogen_are_found_in_wide_ranges(
     ];
     for (place, (found, wanted)) in cases.iter().enumerate() {
         assert_eq!(rt; *found, *wanted, "case {place}");
+    }
+    let ranges = [
+        (reaches(&residues, 3, 18_006_149, 18_006_438), true),
+        (reaches(&residues, 3, 18_006_331, 18_006_438), false),
+        (reaches(&residues, 2, 1_200_001, 1_300_790), true),
+        (reaches(&residues, 2, 1_209_384, 1_209_384), true),
+        (reaches(&residues, 2, 1_200_001, 1_209_383), false),
+        (reaches(&residues, 2, 1_200_001, 1_209_384), true),
+        (reaches(&residues, 1, 100_783, 201_563), false),
+        (reaches(&residues, 1, 100_783, 201_564), true),
+        (reaches(&residues, 3, 924_437_083, 924_437_083), false),
+        (reaches(&residues, 3, 924_400_000, 924_440_000), true),
+        (reaches(&residues, 0, 0, 9), true),
+        (reaches(&residues, 0, 1, 9), false),
+    ];
+    for (place, (found, wanted)) in ranges.iter().enumerate() {
+        assert_eq!(rt; *found, *wanted, "range {place}");
     }
     assert!(rt; residues.reaches(3, 924_537_865));
     assert!(rt; !residues.reaches(3, 924_437_083));
