@@ -4,14 +4,13 @@ use Rattle.std.proofs.Common.{Option, Some, None, List, [], ◌∷◌, drop, get
 use Rattle.std.proofs.Common.{inl, inr, subst, arith}
 use Rattle.std.specs.List.{find, All}
 use Rattle.std.specs.Bool.{OnTrue, OnFalse}
-use Rattle.std.specs.Option.{IsNone, is_some}
 use Rattle.std.proofs.lemmas.Bool.{cases_Bool, and_left, and_parts, leb-true, le-leb, false≢true}
 use Rattle.std.proofs.lemmas.Bool.Decides.{nat_tests}
 use Rattle.std.proofs.Math.Nat.{mul-le-mul_right}
 use Rattle.mass_scaling.specs.Masses.{mass_of}
 use Rattle.mass_scaling.specs.declared.windows.Window.{Window}
-use Rattle.residue_table.specs.Sums.{IsSum, Reaches, IsLeastIn, HoldsNowhereIn}
-use Rattle.std.specs.Prelude.{IfSome}
+use Rattle.residue_table.specs.Sums.{IsSum, Reaches, HoldsNowhereIn, HoldsSomewhereIn}
+use Rattle.std.specs.Prelude.{IsTrue, ◌↔◌}
 use Rattle.std.proofs.lemmas.List.{length-map}
 use Rattle.decompose.proofs.CountedLists.{counts_of_sum, sum_of_none}
 use Rattle.decompose.specs.CountLists.{IsInBox, box_of}
@@ -210,12 +209,14 @@ scaled_fits_at (s ∷ ss) (v ∷ vs) (suc place) d e h ok box =
     scaled_fits_at ss vs place d e (omega arith) (λ k l w. ok (suc k) l (omega arith)) box.2
 
 -- what a probe tells
-pub filled_or_not : (residues : List ℕ) (symbols : List Symbol) (scaled : Window) (found : Option ℕ) (r : Bool) →
-    KnowsScaled residues symbols → r ≡ is_some found →
-    (IsNone found → HoldsNowhereIn (Reaches residues (length symbols)) scaled.lo scaled.hi) →
+pub filled_or_not : (residues : List ℕ) (symbols : List Symbol) (scaled : Window) (r : Bool) →
+    KnowsScaled residues symbols →
+    IsTrue r ↔ HoldsSomewhereIn (Reaches residues (length symbols)) scaled.lo scaled.hi →
     OnFalse r ((counts : List ℕ) → is_within scaled (mass_of (scaled_masses_of symbols) counts) ≡ false)
-filled_or_not residues symbols scaled None r knows e none = rw e (none_fills residues symbols scaled knows (none refl))
-filled_or_not residues symbols scaled (Some v) r knows e none = rw e tt
+filled_or_not residues symbols scaled true knows reaches = tt
+filled_or_not residues symbols scaled false knows reaches =
+    none_fills residues symbols scaled knows
+    (λ value from to sum. absurd (false≢true (reaches.1 (value, from, to, sum))))
 
 -- a level's count has a scaled mass that is not above the scaled window
 pub level_fits : (s : Symbol) (below : List Symbol) (window scaled : Window) (level : Level) →
@@ -226,18 +227,19 @@ level_fits s below window scaled level w v =
     omega (arith, scaled_none, w.keeps_below (level.count ∷ []) (omega (arith, none, v.fits)))
 
 -- where a probe succeeds, a count list fills what is left
-pub is_filled : (residues : List ℕ) (symbols : List Symbol) (scaled : Window) (found : Option ℕ) (r : Bool) →
-    KnowsScaled residues symbols → r ≡ is_some found →
-    IfSome found (IsLeastIn (Reaches residues (length symbols)) scaled.lo scaled.hi) →
+pub is_filled : (residues : List ℕ) (symbols : List Symbol) (scaled : Window) (r : Bool) →
+    KnowsScaled residues symbols →
+    IsTrue r ↔ HoldsSomewhereIn (Reaches residues (length symbols)) scaled.lo scaled.hi →
     OnTrue r (IsFilled symbols scaled)
-is_filled residues symbols scaled None r knows e least = rw e tt
-is_filled residues symbols scaled (Some v) r knows e least =
-    let sum : IsSum (scaled_masses_of symbols) v = subst (λ xs. IsSum xs v) knows.last least.holds in
-    let counts = counts_of_sum (scaled_masses_of symbols) v sum in
+is_filled residues symbols scaled false knows reaches = tt
+is_filled residues symbols scaled true knows reaches =
+    let found = reaches.0 refl in
+    let sum : IsSum (scaled_masses_of symbols) found.0 = subst (λ xs. IsSum xs found.0) knows.last found.3 in
+    let counts = counts_of_sum (scaled_masses_of symbols) found.0 sum in
     let same : length counts.0 ≡ length symbols = counts.1 ∙ length-map symbols (λ symbol. symbol.scaled) in
     let within : is_within scaled (mass_of (scaled_masses_of symbols) counts.0) ≡ true =
-    rw (counts.2, le-leb scaled.lo v least.not_below, le-leb v scaled.hi least.not_above) refl in
-    rw e (counts.0, same, within)
+    rw (counts.2, le-leb scaled.lo found.0 found.1, le-leb found.0 scaled.hi found.2) refl in
+    (counts.0, same, within)
 
 -- no atom at all fills a window that reaches down to 0
 pub is_filled_by_none : (symbols : List Symbol) (scaled : Window) → scaled.lo ≡ 0 →

@@ -1,7 +1,7 @@
 -- How the walk goes on from one count of a symbol to the next: over the masses m ∷ ms and the limits l ∷ ls, for the
 -- first list of the box whose mass is in the window and which comes after the given one.
 use Rattle.std.proofs.Common.{◌≡◌, ℕ, ◌+◌, ◌-◌, ◌*◌, ◌<◌, ◌≤◌, ◌⊎◌, eqb, true, length, Option, Some, None, List, []}
-use Rattle.std.proofs.Common.{◌∷◌, set, refl, ap, ◌∙◌, inl, inr, subst, arith}
+use Rattle.std.proofs.Common.{◌∷◌, get_or, set, refl, ap, ◌∙◌, inl, inr, subst, arith}
 use Rattle.std.specs.List.{find}
 use Rattle.std.proofs.lemmas.Bool.{cases_Bool, cases_lt, eqb-true, eqb-false, and_left, le-leb, lt-leb}
 use Rattle.std.proofs.Math.Nat.{mul-le-mul_right, add-zero}
@@ -225,6 +225,12 @@ module _ (symbol : Symbol) (below : List Symbol) (count : ℕ) (window : Window)
           window None (level.count + 1) None after
           (over_next symbol.mass record { low = count; high = symbol.limit.high } window level r.is_level over)
 
+-- one level written
+pub one_written : (levels : List Level) (level : Level) → length levels ≡ 1 → set levels 0 level ≡ level ∷ []
+one_written [] level h = absurd (omega arith)
+one_written (x ∷ []) level h = refl
+one_written (x ∷ y ∷ ys) level h = absurd (omega arith)
+
 -- two levels written
 pub two_written : (levels : List Level) (first second : Level) → length levels ≡ 2 →
     set (set levels 0 first) 1 second ≡ first ∷ second ∷ []
@@ -248,3 +254,17 @@ empty_found [] count window [] e f ordered =
     ]
 empty_found [] count window (v ∷ vs) e f ordered = absurd (omega arith)
 empty_found (s ∷ ss) count window levels e f ordered = absurd (omega arith)
+
+-- the symbols of a slice of one or two
+pub one_of : (symbols : List Symbol) (first : Symbol) → length symbols ≡ 1 → first ≡ get_or symbols 0 first →
+    symbols ≡ first ∷ []
+one_of [] first h is = absurd (omega arith)
+one_of (s ∷ []) first h is = rw is refl
+one_of (s ∷ t ∷ ts) first h is = absurd (omega arith)
+
+pub two_of : (symbols : List Symbol) (first second : Symbol) → length symbols ≡ 2 → first ≡ get_or symbols 0 first →
+    second ≡ get_or symbols 1 second → symbols ≡ first ∷ second ∷ []
+two_of [] first second h is is_second = absurd (omega arith)
+two_of (s ∷ []) first second h is is_second = absurd (omega arith)
+two_of (s ∷ t ∷ []) first second h is is_second = rw (is, is_second) refl
+two_of (s ∷ t ∷ u ∷ us) first second h is is_second = absurd (omega arith)

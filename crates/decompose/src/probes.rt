@@ -44,13 +44,10 @@ pub(crate) fn may_fill<L: Ledger>(
     ensures filled { OnTrue result (IsFilled symbols.now scaled) }
     ensures one_step { steps.new ≤ steps.old + 1 }
 {
-    scaled.lo == 0
-        || residues
-            .first_in(symbols.len(), scaled.lo, scaled.hi, steps)
-            .is_some()
+    scaled.lo == 0 || residues.reaches_in(symbols.len(), scaled.lo, scaled.hi, steps)
 }
 
-/// What the levels before this place leave of a scaled window.
+/// What the levels before this place leave of a scaled window, where more than two symbols are left from it on.
 pub(crate) fn scaled_at(
     symbols: &[Symbol],
     levels: &[Level],
@@ -63,8 +60,11 @@ pub(crate) fn scaled_at(
     requires ordered { scaled.lo ≤ scaled.hi }
     requires symbols { All IsSymbol symbols.now }
     requires in_box { IsInBox (limits_of symbols.now) (counts_of levels.now) }
-    ensures { result ≡ scaled_at symbols.now levels.now scaled place }
+    ensures { place + 3 ≤ length symbols.now → result ≡ scaled_at symbols.now levels.now scaled place }
 {
+    if symbols.len() < place + 3 {
+        return scaled;
+    }
     let mut taken = 0u64;
     for before in 0..place {
         let mass = u64::from(levels[before].count) * symbols[before].scaled;

@@ -35,16 +35,16 @@ fn first_low(symbols: &[Symbol]) -> u32
 /// whether a count of the lighter one fits. Counts whose remainders can't come down to the window's width are
 /// leapt over.
 fn find_in_pair(
-    heavier: Symbol,
-    lighter: Symbol,
+    heavier: &Symbol,
+    lighter: &Symbol,
     window: Window,
     count: u32,
     levels: &mut [Level],
 ) -> bool
     requires two { length levels.old ≡ 2 }
-    requires positive { 0 < lighter.mass }
+    requires positive { 0 < lighter.now.mass }
     requires ordered { window.lo ≤ window.hi }
-    ensures { FindsFirst (heavier ∷ lighter ∷ []) count window result levels.old levels.new }
+    ensures { FindsFirst (heavier.now ∷ lighter.now ∷ []) count window result levels.old levels.new }
 {
     let Some(first) = heavier.level_at(window, count) else {
         return false;
@@ -74,6 +74,26 @@ fn find_in_pair(
     }
 }
 
+/// Writes into `levels` the first list over one symbol whose mass is in the window, from this count on; false where
+/// there is none, and the levels are then as before.
+fn find_alone(symbol: Symbol, window: Window, count: u32, levels: &mut [Level]) -> bool
+    requires one { length levels.old ≡ 1 }
+    requires positive { 0 < symbol.mass }
+    ensures { FindsFirst (symbol ∷ []) count window result levels.old levels.new }
+{
+    // Most often the count is above the window already, which needs no division to be known.
+    if symbol.level_at(window, count).is_none() {
+        return false;
+    }
+    let mut rest = symbol;
+    rest.limit.low = count;
+    let Some(level) = rest.first_within(window) else {
+        return false;
+    };
+    levels[0] = level;
+    true
+}
+
 /// Writes into `levels` the first list over these symbols whose mass is in the window, from this count
 /// of the first symbol on; false where there is none, and the levels are then as before.
 ///
@@ -101,7 +121,7 @@ fn find_from<L: Ledger>(
         return window.lo == 0;
     };
     if let [lighter] = below {
-        return find_in_pair(*symbol, *lighter, window, count, levels);
+        return find_in_pair(symbol, lighter, window, count, levels);
     }
     let Some(mut level) = symbol.level_at(window, count) else {
         return false;
@@ -128,6 +148,34 @@ fn find_from<L: Ledger>(
         };
         level = raised;
         rest = window_less(rest, symbol.scaled);
+    }
+}
+
+/// The same, where one or two symbols need no scaled window.
+fn find_below<L: Ledger>(
+    residues: &Residues,
+    symbols: &[Symbol],
+    window: Window,
+    scaled: Window,
+    count: u32,
+    levels: &mut [Level],
+    steps: &mut Steps<L>,
+) -> bool
+    requires one_level_each { length levels.old ≡ length symbols.now }
+    requires some { 1 ≤ length symbols.now }
+    requires symbols { All IsSymbol symbols.now }
+    requires ordered { window.lo ≤ window.hi }
+    requires scaled { 3 ≤ length symbols.now → IsScaledWindow symbols.now window scaled }
+    requires knows { KnowsScaled residues.now symbols.now }
+    ensures finds { FindsFirst symbols.now count window result levels.old levels.new }
+    ensures steps { (w : Window) → (3 ≤ length symbols.now → scaled ≡ w) → (most : ℕ) → HasRoom symbols.now w.hi most →
+        steps.new ≤ steps.old + (most + 1) * (1 + length symbols.now
+        * number_from symbols.now w count most (found_list result (counts_of levels.new))) }
+{
+    match symbols.len() {
+        1 => find_alone(symbols[0], window, count, levels),
+        2 => find_in_pair(&symbols[0], &symbols[1], window, count, levels),
+        _ => find_from(residues, symbols, window, scaled, count, levels, steps),
     }
 }
 
@@ -208,7 +256,7 @@ fn find_next<L: Ledger>(
         let left = window_at(window, levels, place);
         let rest = scaled_at(symbols, levels, scaled, place);
         let count = levels[place].count + 1;
-        if find_from(
+        if find_below(
             residues,
             &symbols[place..],
             left,

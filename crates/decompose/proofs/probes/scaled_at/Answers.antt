@@ -19,7 +19,7 @@ loop-before-preserved c =
     omega (arith, sum, more, c.loop-before.invariant)
 
 pub returns : goal.returns
-returns c =
+returns c many =
     let here : c.loop-before.before ≡ c.args.place =
     omega (arith, c.loop-before-test.false, c.loop-before.auto.before-end) in
     let taken = rw here at c.loop-before.invariant in

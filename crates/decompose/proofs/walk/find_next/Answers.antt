@@ -1,6 +1,7 @@
 use Rattle.std.proofs.Common.{◌≡◌, ℕ, ◌+◌, ◌-◌, ◌≤◌, suc, length, length-drop, drop, get_or, refl, ap, subst, arith}
 use Rattle.std.proofs.lemmas.List.{length-map, take_rest}
 use Rattle.decompose.specs.Levels.{counts_of, limits_of, window_at}
+use Rattle.decompose.specs.Probes.{scaled_at}
 use Rattle.decompose.specs.Walk.{StandsAt}
 use Rattle.decompose.specs.declared.levels.Level.{Level}
 use Rattle.decompose.proofs.FirstOfSlice.{put_rest, put_rest_back}
@@ -29,8 +30,8 @@ overflow_add-count g c =
           c.requires.symbols (omega (arith, c.loop-place.invariant.in_range)),
     )
 
-pub find_from-requires-clause-ordered : goal.find_from-requires-clause-ordered
-find_from-requires-clause-ordered g c =
+pub find_below-requires-clause-ordered : goal.find_below-requires-clause-ordered
+find_below-requires-clause-ordered g c =
     let place : ℕ = c.loop-place.place - 1 in
     let one_more : c.loop-place.place ≡ suc place = omega arith in
     let stands =
@@ -39,31 +40,32 @@ find_from-requires-clause-ordered g c =
     rw c.window_at-left.ensures
     (window_ordered c.args.symbols.now c.args.window c.loop-place.levels place stands c.requires.ordered)
 
-pub find_from-requires-clause-scaled : goal.find_from-requires-clause-scaled
-find_from-requires-clause-scaled g c =
+pub find_below-requires-clause-scaled : goal.find_below-requires-clause-scaled
+find_below-requires-clause-scaled g c =
     let place : ℕ = c.loop-place.place - 1 in
     let one_more : c.loop-place.place ≡ suc place = omega arith in
     let stands =
     subst (λ n. StandsAt c.args.symbols.now c.args.window c.loop-place.levels n) one_more c.loop-place.invariant.stands
     in
-    rw (take_rest c.args.symbols.now place, c.window_at-left.ensures, c.scaled_at-rest.ensures)
-    (scaled_at_place c.args.symbols.now c.args.window c.args.scaled c.loop-place.levels place stands c.requires.scaled)
+    rw (take_rest c.args.symbols.now place, c.window_at-left.ensures)
+    (λ many. rw (c.scaled_at-rest.ensures (omega (arith, simp length-drop at many)))
+    (scaled_at_place c.args.symbols.now c.args.window c.args.scaled c.loop-place.levels place stands c.requires.scaled))
 
-pub find_from-requires-clause-knows : goal.find_from-requires-clause-knows
-find_from-requires-clause-knows g c =
+pub find_below-requires-clause-knows : goal.find_below-requires-clause-knows
+find_below-requires-clause-knows g c =
     let place : ℕ = c.loop-place.place - 1 in
     rw (take_rest c.args.symbols.now place)
     (knows_at c.args.residues.now c.args.symbols.now place c.requires.knows)
 
-pub returns-then-find_from-clause-finds : goal.returns-then-find_from-clause-finds
-returns-then-find_from-clause-finds g c =
+pub returns-then-find_below-clause-finds : goal.returns-then-find_below-clause-finds
+returns-then-find_below-clause-finds g c =
     let place : ℕ = c.loop-place.place - 1 in
     let one_more : c.loop-place.place ≡ suc place = omega arith in
     let stands =
     subst (λ n. StandsAt c.args.symbols.now c.args.window c.loop-place.levels n) one_more c.loop-place.invariant.stands
     in
-    let found = rw (take_rest c.args.symbols.now place, c.window_at-left.ensures) at c.if-find_from.ensures.finds in
-    climb_finds c.args.symbols.now c.args.window c.args.levels.now c.loop-place.levels c.find_from.new.levels place _
+    let found = rw (take_rest c.args.symbols.now place, c.window_at-left.ensures) at c.if-find_below.ensures.finds in
+    climb_finds c.args.symbols.now c.args.window c.args.levels.now c.loop-place.levels c.find_below.new.levels place _
     c.loop-place.invariant.unchanged stands c.requires.in_box found.0 found.1
 
 pub loop-place-preserved : goal.loop-place-preserved
@@ -73,9 +75,9 @@ loop-place-preserved g c =
     let stands =
     subst (λ n. StandsAt c.args.symbols.now c.args.window c.loop-place.levels n) one_more c.loop-place.invariant.stands
     in
-    let none = rw (take_rest c.args.symbols.now place, c.window_at-left.ensures) at c.if-find_from.ensures.finds in
+    let none = rw (take_rest c.args.symbols.now place, c.window_at-left.ensures) at c.if-find_below.ensures.finds in
     rw (none.1, put_rest_back c.loop-place.levels place) record {
-      stands = climb_on c.args.symbols.now c.args.window c.args.levels.now c.loop-place.levels c.find_from.new.levels
+      stands = climb_on c.args.symbols.now c.args.window c.args.levels.now c.loop-place.levels c.find_below.new.levels
           place _ c.loop-place.invariant.unchanged stands c.requires.in_box none.0;
       in_range = omega (arith, c.loop-place.invariant.in_range);
       not_above = omega (arith, c.loop-place.invariant.not_above);
@@ -83,15 +85,17 @@ loop-place-preserved g c =
       steps = λ most room.
           let before = rw one_more at (c.loop-place.invariant.steps most room) in
           let here =
-          rw (take_rest c.args.symbols.now place, c.scaled_at-rest.ensures) at c.if-find_from.ensures.steps in
+          rw (take_rest c.args.symbols.now place) at c.if-find_below.ensures.steps in
           climb_steps_on c.args.symbols.now c.args.window c.args.scaled c.loop-place.levels place c.args.depth most
-          c.args.steps.now c.loop-place.steps c.find_from.new.steps no_level stands c.requires.scaled room
+          c.args.steps.now c.loop-place.steps c.find_below.new.steps no_level stands c.requires.scaled room
           (omega (arith, c.loop-place.invariant.not_above)) before
-          (here most (room_at c.args.symbols.now c.args.scaled c.loop-place.levels place most room));
+          (here (scaled_at c.args.symbols.now c.loop-place.levels c.args.scaled place)
+          (λ many. c.scaled_at-rest.ensures (omega (arith, simp length-drop at many))) most
+          (room_at c.args.symbols.now c.args.scaled c.loop-place.levels place most room));
     }
 
-pub returns-then-find_from-clause-steps : goal.returns-then-find_from-clause-steps
-returns-then-find_from-clause-steps g c most room =
+pub returns-then-find_below-clause-steps : goal.returns-then-find_below-clause-steps
+returns-then-find_below-clause-steps g c most room =
     let place : ℕ = c.loop-place.place - 1 in
     let one_more : c.loop-place.place ≡ suc place = omega arith in
     let symbols = c.args.symbols.now in
@@ -99,9 +103,9 @@ returns-then-find_from-clause-steps g c most room =
     let stands =
     subst (λ n. StandsAt c.args.symbols.now c.args.window c.loop-place.levels n) one_more c.loop-place.invariant.stands
     in
-    let found = rw (take_rest symbols place, c.window_at-left.ensures) at c.if-find_from.ensures.finds in
+    let found = rw (take_rest symbols place, c.window_at-left.ensures) at c.if-find_below.ensures.finds in
     let before = rw one_more at (c.loop-place.invariant.steps most room) in
-    let here = rw (take_rest symbols place, c.scaled_at-rest.ensures) at c.if-find_from.ensures.steps in
+    let here = rw (take_rest symbols place) at c.if-find_below.ensures.steps in
     let depth = stands_within symbols c.args.window c.args.levels.now c.args.depth c.requires.stands in
     let some : 1 ≤ length (limits_of (drop place symbols)) =
     simp (length-map, length-drop)
@@ -112,17 +116,19 @@ returns-then-find_from-clause-steps g c most room =
       c.requires.one_level_each,
     )) in
     rw (
-      put_rest levels c.find_from.new.levels place,
-      ← counts_behind levels c.find_from.new.levels place,
+      put_rest levels c.find_below.new.levels place,
+      ← counts_behind levels c.find_below.new.levels place,
       ← c.loop-place.invariant.unchanged,
     )
     (climb_steps_found symbols c.args.window c.args.scaled levels place c.args.depth most
-    c.args.steps.now c.loop-place.steps c.find_from.new.steps no_level stands c.requires.scaled room
-    (omega (arith, c.loop-place.invariant.not_above)) before (counts_of c.find_from.new.levels)
+    c.args.steps.now c.loop-place.steps c.find_below.new.steps no_level stands c.requires.scaled room
+    (omega (arith, c.loop-place.invariant.not_above)) before (counts_of c.find_below.new.levels)
     (omega (arith, depth, c.requires.one_level_each))
     (found_after (drop place symbols) (window_at c.args.window levels place) (get_or levels place no_level).count
-    (counts_of c.find_from.new.levels) some found.0)
-    (here most (room_at symbols c.args.scaled levels place most room)))
+    (counts_of c.find_below.new.levels) some found.0)
+    (here (scaled_at symbols levels c.args.scaled place)
+    (λ many. c.scaled_at-rest.ensures (omega (arith, simp length-drop at many))) most
+    (room_at symbols c.args.scaled levels place most room)))
 
 pub returns-clause-steps : goal.returns-clause-steps
 returns-clause-steps g c most room =
