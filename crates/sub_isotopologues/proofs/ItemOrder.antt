@@ -11,7 +11,8 @@ use Rattle.std.proofs.lemmas.Bool.{cases_order, lt-ltb, le-ltb, ltb-false, eq-eq
 use Rattle.std.proofs.lemmas.Cmp.{nat_cmp_total, nat_list_cmp_total, on_total, back_total, then_total}
 use Rattle.std.proofs.lemmas.List.{map-append, length-map, get_or-map}
 use Rattle.std.proofs.lemmas.List.Elements.{All-weaker, All-head, All-tail, All-map}
-use Rattle.std.proofs.lemmas.List.Sorted.{ranks_by, sorted_far, All-permutation, IsPermutation-map, IsPermutation-trans, IsPermutation-append_right}
+use Rattle.std.proofs.lemmas.List.Sorted.{ranks_by, sorted_far, All-permutation, length_permutation}
+use Rattle.std.proofs.lemmas.List.Sorted.{IsPermutation-map, IsPermutation-trans, IsPermutation-append_right}
 use Rattle.std.proofs.lemmas.Map.Lookups.{exact_bytes}
 use Rattle.sorted_lists.specs.SortedLists.{sorted_by, IsStrictOrder}
 use Rattle.sorted_lists.proofs.SortedListLaws.{IsPermutation-sorted_by, IsSortedBy-sorted_by, AllPairs-sorted_by, sorted_by-only}
@@ -177,6 +178,13 @@ module _ (ws : List ℕ) where
     pub over-counts : (u : ℕ) → counts_in (items_over ws n u) ≡ sorted_by (stands_before ws) (counts_over ws n u)
     unfolding items_over
     over-counts u = counts-of_items ws (sorted_by (stands_before ws) (counts_over ws n u))
+
+    pub length-items_over : (u : ℕ) → length (items_over ws n u) ≡ length (counts_over ws n u)
+    unfolding items_over
+    length-items_over u =
+        length-map (sorted_by (stands_before ws) (counts_over ws n u)) (sub_isotopologue_of ws)
+        ∙ length_permutation (counts_over ws n u) (sorted_by (stands_before ws) (counts_over ws n u))
+        (IsPermutation-sorted_by (stands_before ws) (counts_over ws n u))
 
     pub AreItemsOver-items : (u : ℕ) → AreItemsOver ws n u (items_over ws n u)
     unfolding items_over

@@ -1,8 +1,9 @@
 -- What a list keeps, from one call to the next.
 use Rattle.std.specs.Prelude.{◌↔◌}
-use Rattle.std.proofs.lemmas.List.{take_at, get_or-take, length-map, map-append}
-use Rattle.sub_isotopologues.specs.Children.{children, IsBoundUpTo}
-use Rattle.std.proofs.Common.{◌≡◌, ℕ, suc, ◌+◌, ◌-◌, ◌<◌, ◌≤◌, true, false, ltb, List, [], ◌∷◌, ◌++◌, length, map, get_or, sum, Ok, Err, refl, sym, ◌∙◌, ap, arith, All, length-append}
+use Rattle.std.proofs.lemmas.List.{take_at, get_or-take, length-take-le, length-map, map-append}
+use Rattle.sub_isotopologues.specs.Children.{children, counts_over, IsBoundUpTo}
+use Rattle.std.proofs.Common.{◌≡◌, ℕ, suc, ◌+◌, ◌-◌, ◌<◌, ◌≤◌, true, false, ltb, List, [], ◌∷◌, ◌++◌, length, map}
+use Rattle.std.proofs.Common.{take, get_or, sum, Ok, Err, refl, sym, ◌∙◌, ap, subst, arith, All, length-append}
 use Rattle.std.specs.List.{range_with_len}
 use Rattle.std.proofs.lemmas.Bool.{lt-ltb, le-ltb}
 use Rattle.reader_answers.specs.Answers.{GivesAs}
@@ -10,18 +11,22 @@ use Rattle.multinomial_bounds.specs.Weight.{IsWeights, IsCounts}
 use Rattle.multinomial_bounds.specs.Bounds.{certainty, floor_of, ceiling_of}
 use Rattle.multinomial_bounds.specs.Mode.{mode_of_atoms, mode_bound}
 use Rattle.multinomial_bounds.specs.Path.{bound_of}
+use Rattle.multinomial_bounds.specs.Isotopologue.{Element}
 use Rattle.multinomial_bounds.proofs.EnclosureLemmas.{bound_of-mode}
 use Rattle.multinomial_bounds.proofs.ModeLemmas.{sum-mode_of_atoms}
 use Rattle.sub_isotopologues.specs.declared.fault.SubFault.{SubFault}
 use Rattle.sub_isotopologues.specs.declared.fault.SubFault.TheVariants.{TooMany, NotInList, Memory}
 use Rattle.sub_isotopologues.specs.SubIsotopologues.{SubIsotopologue, sub_isotopologue_of, product_with, AreOthers}
-use Rattle.sub_isotopologues.specs.Listings.{Listing, with_given, counts_above, items_of, places_left, max_sub_isotopologues}
+use Rattle.sub_isotopologues.specs.Listings.{Listing, lowered, with_given, counts_above, items_of, places_left}
+use Rattle.sub_isotopologues.specs.Listings.{max_sub_isotopologues}
 use Rattle.sub_isotopologues.specs.ListAnswers.{is_memory, within_limit, OnlyTooMany}
-use Rattle.sub_isotopologues.specs.Growth.{IsKept, AreSearched}
+use Rattle.sub_isotopologues.specs.Growth.{Grown, grown_items, items_over, AreGrown, IsListed, AreSearched}
 use Rattle.sub_isotopologues.proofs.CutoffLemmas.{raised-most, raised-once, product_with-is}
+use Rattle.sub_isotopologues.proofs.CountsOver.{over-IsCounts, over-above}
 use Rattle.sub_isotopologues.proofs.Descent.{hi-enclosed}
 use Rattle.sub_isotopologues.proofs.ItemLists.{mode_counts_are}
-use Rattle.sub_isotopologues.proofs.ListLaws.{counts_above-IsCounts, counts_above-above, cut-falls}
+use Rattle.sub_isotopologues.proofs.ListLaws.{counts_above-IsCounts, counts_above-above, items_of-cut, cut-falls}
+use Rattle.sub_isotopologues.proofs.FrontItems.{items_between, front-items}
 
 -- the items do not depend on how many were given
 pub items_of-given : (l : Listing) (given : ℕ) → items_of (with_given l given) ≡ items_of l
@@ -41,20 +46,22 @@ places_left-next l left =
     (sym (items_of-given l (l.given + 1)))
 
 -- the same items, one more of them given
-pub IsKept-given : (l : Listing) (mode : SubIsotopologue) (kept : List SubIsotopologue) (unlisted : List ℕ)
-    (given : ℕ) →
-    IsKept l mode kept unlisted → given ≤ length kept → IsKept (with_given l given) mode kept unlisted
-IsKept-given l mode kept unlisted given is few = record {
+pub IsListed-given : (l : Listing) (g : Grown) (listed given : ℕ) → IsListed l g listed → given ≤ listed →
+    IsListed (with_given l given) g listed
+IsListed-given l g listed given is few = record {
   weights = is.weights;
-  few_atoms = is.few_atoms;
+  cut = is.cut;
+  cuts = is.cuts;
   others = is.others;
   at_most_one = is.at_most_one;
   given = few;
-  few = is.few;
-  mode_is = is.mode_is;
+  within = is.within;
   items_are = is.items_are ∙ sym (items_of-given l given);
-  searched = is.searched;
 }
+
+-- as many items are listed as the list has
+pub listed-length : (l : Listing) (g : Grown) (listed : ℕ) → IsListed l g listed → length (items_of l) ≡ listed
+listed-length l g listed is = ap length (sym is.items_are) ∙ length-take-le listed (grown_items g) is.within
 
 -- no product is above 1
 no_members : {X : Type 0} (P : X → Type 0) (xs : List X) → All P xs → ((x : X) → P x → ⊥) → xs ≡ []
@@ -86,6 +93,15 @@ items_of-certainty l ok others one =
     )) in
     rw none refl
 
+pub items_over-certainty : (ws : List ℕ) (n : ℕ) → IsWeights ws → items_over ws n certainty ≡ []
+unfolding items_over
+items_over-certainty ws n ok =
+    let none : counts_over ws n certainty ≡ [] =
+    no_members (λ c. IsCounts ws n c × (certainty < bound_of ceiling_of ws c)) (counts_over ws n certainty)
+    (λ k d within. (over-IsCounts ws n certainty k d within, over-above ws n certainty k d within))
+    (λ c both. omega (arith, both.1, (hi-enclosed ws n ok c both.0).at_most_one)) in
+    rw none refl
+
 -- the mode as it is found
 pub mode_item : (ws : List ℕ) (n : ℕ) (counts : List ℕ) (lo hi : ℕ) → IsWeights ws → counts ≡ mode_of_atoms ws n →
     lo ≡ mode_bound floor_of ws n → hi ≡ mode_bound ceiling_of ws n →
@@ -95,11 +111,11 @@ mode_item ws n counts lo hi ok is low high =
     rw (is, low, high, ← bound_of-mode floor_of ws ok.some n, ← bound_of-mode ceiling_of ws ok.some n) refl
 
 -- the atoms of the mode
-pub mode_atoms : (l : Listing) (mode : SubIsotopologue) (kept : List SubIsotopologue) (unlisted : List ℕ) →
-    IsKept l mode kept unlisted → sum mode.counts ≡ l.element.atoms
-mode_atoms l mode kept unlisted is =
-    ap sum (mode_counts_are l.element.weights l.element.atoms mode is.mode_is)
-    ∙ sum-mode_of_atoms l.element.weights is.weights.some l.element.atoms
+pub mode_atoms : (g : Grown) (mode : SubIsotopologue) (kept : List SubIsotopologue) (unlisted : List ℕ) →
+    AreGrown g mode kept unlisted → sum mode.counts ≡ g.element.atoms
+mode_atoms g mode kept unlisted are =
+    ap sum (mode_counts_are g.element.weights g.element.atoms mode are.mode_is)
+    ∙ sum-mode_of_atoms g.element.weights are.weights.some g.element.atoms
 
 -- what a lower threshold answers
 pub gives_fault : (l x : Listing) (f : SubFault) → OnlyTooMany (max_sub_isotopologues < length (items_of l)) f →
@@ -143,13 +159,109 @@ AreSearched-append ws m up_to items more unlisted is = record {
       ) (is.bounds k within);
 }
 
--- two numbers cut the same where they cut at one threshold
-pub one_cut : (before : ℕ) (after : List ℕ) (t cut cut' : ℕ) → cut ≤ certainty → cut' ≤ certainty →
-    ((hi : ℕ) → hi ≤ certainty → (t < product_with before after hi) ↔ (cut < hi)) →
-    ((hi : ℕ) → hi ≤ certainty → (t < product_with before after hi) ↔ (cut' < hi)) → cut ≡ cut'
-one_cut before after t cut cut' most most' cuts cuts' =
-    omega (
+-- the grown items by the atoms of the mode
+module _ (g : Grown) (mode : SubIsotopologue) (kept : List SubIsotopologue) (unlisted : List ℕ)
+    (are : AreGrown g mode kept unlisted) where
+  atoms_are : g.element.atoms ≡ sum mode.counts
+  atoms_are = sym (mode_atoms g mode kept unlisted are)
+
+  pub mode_by_atoms : mode ≡ sub_isotopologue_of g.element.weights (mode_of_atoms g.element.weights (sum mode.counts))
+  mode_by_atoms =
+      are.mode_is ∙ ap (λ (n : ℕ). sub_isotopologue_of g.element.weights (mode_of_atoms g.element.weights n)) atoms_are
+
+  pub items_by_atoms : kept ≡ items_over g.element.weights (sum mode.counts) g.above
+  items_by_atoms = are.items_are ∙ ap (λ (n : ℕ). items_over g.element.weights n g.above) atoms_are
+
+  pub mode-lo : mode.lo ≡ mode_bound floor_of g.element.weights g.element.atoms
+  unfolding sub_isotopologue_of
+  mode-lo = ap (λ (i : SubIsotopologue). i.lo) are.mode_is ∙ bound_of-mode floor_of g.element.weights are.weights.some
+      g.element.atoms
+
+  pub mode-hi : mode.hi ≡ mode_bound ceiling_of g.element.weights g.element.atoms
+  unfolding sub_isotopologue_of
+  mode-hi = ap (λ (i : SubIsotopologue). i.hi) are.mode_is ∙ bound_of-mode ceiling_of g.element.weights
+      are.weights.some g.element.atoms
+
+-- the list above 1, which has no item
+pub listed-none : (l : Listing) (g : Grown) → IsWeights l.element.weights → AreOthers l.before l.after →
+    l.threshold ≡ certainty → l.given ≡ 0 → IsListed l g 0
+listed-none l g ok others one none = record {
+  weights = ok;
+  cut = certainty;
+  cuts = λ hi le.
+      ((λ above. absurd (omega (arith, product_with-most l.before l.after hi others le))), (λ above. absurd (omega arith)));
+  others = others;
+  at_most_one = omega arith;
+  given = omega arith;
+  within = omega arith;
+  items_are = sym (items_of-certainty l ok others one);
+}
+
+-- the list of a lower threshold, whose items are the first of what is grown then
+module _ (l : Listing) (g more : Grown) (listed count threshold cut : ℕ) (is : IsListed l g listed)
+    (same : more.element ≡ l.element) (lower : threshold ≤ l.threshold) (most : cut ≤ certainty)
+    (cuts : (hi : ℕ) → hi ≤ certainty → (threshold < product_with l.before l.after hi) ↔ (cut < hi))
+    (within : count ≤ length (grown_items more))
+    (first : take count (grown_items more) ≡ items_over more.element.weights more.element.atoms cut) where
+  abbrev pub longer : Listing
+  longer = record {
+    element = more.element;
+    before = l.before;
+    after = l.after;
+    threshold = threshold;
+    given = l.given;
+  }
+
+  pub longer_is : longer ≡ lowered l threshold
+  longer_is = ap (λ (e : Element). record {
+    element = e;
+    before = l.before;
+    after = l.after;
+    threshold = threshold;
+    given = l.given;
+  }) same
+
+  weights_are : IsWeights more.element.weights
+  weights_are = let P : Element → Type 0 = λ e. IsWeights e.weights in subst P (sym same) is.weights
+
+  longer_items : items_of longer ≡ items_over more.element.weights more.element.atoms cut
+  longer_items = items_of-cut longer cut weights_are cuts
+
+  pub longer_length : length (items_of longer) ≡ count
+  longer_length = ap length (longer_items ∙ sym first) ∙ length-take-le count (grown_items more) within
+
+  pub cut_falls : cut ≤ is.cut
+  cut_falls = cut-falls l.before l.after l.threshold threshold is.cut cut lower most is.cuts cuts
+
+  pub older_items : items_of longer
+      ≡ items_of l ++ items_between l.element.weights l.element.atoms cut is.cut cut_falls
+  older_items =
+      longer_items
+      ∙ ap (λ (e : Element). items_over e.weights e.atoms cut) same
+      ∙ front-items l.element.weights l.element.atoms cut is.cut cut_falls
+      ∙ ap (λ xs. xs ++ items_between l.element.weights l.element.atoms cut is.cut cut_falls)
+      (sym (items_of-cut l is.cut is.weights is.cuts))
+
+  pub older_first : take (length (items_of l)) (items_of longer) ≡ items_of l
+  older_first =
+      ap (take (length (items_of l))) older_items
+      ∙ take_at (items_of l) (items_between l.element.weights l.element.atoms cut is.cut cut_falls) _ refl
+
+  pub longer_listed : IsListed longer more count
+  longer_listed = record {
+    weights = weights_are;
+    cut = cut;
+    cuts = cuts;
+    others = is.others;
+    at_most_one = omega (arith, is.at_most_one);
+    given = omega (
       arith,
-      cut-falls before after t t cut cut' (omega arith) most' cuts cuts',
-      cut-falls before after t t cut' cut (omega arith) most cuts' cuts,
-    )
+      is.given,
+      listed-length l g listed is,
+      longer_length,
+      ap length older_items,
+      length-append (items_of l) (items_between l.element.weights l.element.atoms cut is.cut cut_falls),
+    );
+    within = within;
+    items_are = first ∙ sym longer_items;
+  }

@@ -12,3 +12,4 @@ pub mod ItemOrder
 pub mod ListLaws
 pub mod KeptLists
 pub mod ChildBounds
+pub mod FrontItems

@@ -10,7 +10,7 @@ use Rattle.std.proofs.lemmas.Bool.{cases_lt, lt-ltb, le-ltb, ltb-true}
 use Rattle.std.proofs.lemmas.List.{length-map, get_or-map}
 use Rattle.std.proofs.lemmas.List.Elements.{All-weaker, All-filter, filter_passes}
 use Rattle.std.proofs.lemmas.List.Kept.{AllPairs-filter}
-use Rattle.std.proofs.lemmas.List.Sorted.{All-permutation, length_permutation, sorted_far}
+use Rattle.std.proofs.lemmas.List.Sorted.{All-permutation, sorted_far}
 use Rattle.sorted_lists.specs.SortedLists.{sorted_by, IsTheOrder}
 use Rattle.sorted_lists.proofs.SortedListLaws.{IsPermutation-sorted_by, IsSortedBy-sorted_by, the-order}
 use Rattle.multinomial_bounds.specs.Weight.{IsWeights, IsCounts, weight_of, total_of}
@@ -67,14 +67,6 @@ module _ (l : Listing) (cut : ℕ) (ok : IsWeights l.element.weights)
   items_of-cut =
       ap (λ cs. map (sub_isotopologue_of l.element.weights) (sorted_by (stands_before l.element.weights) cs))
       counts_above-cut
-
-  pub length-items_of-cut : length (items_of l) ≡ length (counts_over l.element.weights l.element.atoms cut)
-  unfolding items_of
-  length-items_of-cut =
-      length-map (sorted_by (stands_before l.element.weights) (counts_above l)) (sub_isotopologue_of l.element.weights)
-      ∙ length_permutation (counts_above l) (sorted_by (stands_before l.element.weights) (counts_above l))
-      (IsPermutation-sorted_by (stands_before l.element.weights) (counts_above l))
-      ∙ ap length counts_above-cut
 
 -- a lower threshold has no greater cut
 pub cut-falls : (before : ℕ) (after : List ℕ) (t t' cut cut' : ℕ) → t' ≤ t → cut' ≤ certainty →

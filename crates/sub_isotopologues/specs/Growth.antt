@@ -1,14 +1,17 @@
 -- Only proofs use these: what a lower threshold adds to a list. Bounds are in units of 10^-18.
-use Rattle.std.specs.Prelude.{◌≡◌, ◌≢◌, ◌<◌, ◌≤◌, ◌↔◌, ℕ, Bool, List, [], length, map, All, AllPairs, slice_index, slice_index_or}
+use Rattle.std.specs.Prelude.{◌≡◌, ◌≢◌, ◌<◌, ◌≤◌, ◌↔◌, ℕ, Bool, List, [], length, map, take, All, AllPairs}
+use Rattle.std.specs.Prelude.{slice_index, slice_index_or}
 use Rattle.std.specs.Ordering.{is_lt, nat_cmp, ordering_then}
 use Rattle.std.specs.declared.cmp.Ordering.{Ordering}
 use Rattle.std.specs.Cmp.Lexicographic.{slice_cmp}
 use Rattle.std.specs.List.Sorted.{IsPermutation}
 use Rattle.sorted_lists.specs.SortedLists.{sorted_by}
-use Rattle.sub_isotopologues.specs.SubIsotopologues.{SubIsotopologue, sub_isotopologue_of, stands_before, product_with, AreOthers}
+use Rattle.sub_isotopologues.specs.SubIsotopologues.{SubIsotopologue, sub_isotopologue_of, stands_before}
+use Rattle.sub_isotopologues.specs.SubIsotopologues.{product_with, AreOthers}
 use Rattle.multinomial_bounds.specs.Weight.{IsWeights}
 use Rattle.multinomial_bounds.specs.Bounds.{certainty}
 use Rattle.multinomial_bounds.specs.Mode.{mode_of_atoms}
+use Rattle.multinomial_bounds.specs.Isotopologue.{Element}
 use Rattle.sub_isotopologues.specs.Children.{counts_over, children, IsBoundUpTo}
 use Rattle.sub_isotopologues.specs.Listings.{Listing, items_of, max_sub_isotopologues}
 
@@ -39,17 +42,32 @@ pub record AreSearched (weights mode : List ℕ) (up_to : ℕ) (items : List Sub
       All (λ y. IsBoundUpTo weights up_to (slice_index unlisted k) y)
       (children mode (slice_index_or (map (λ i. i.counts) items) k []))
 
--- what a list keeps: the mode of its element, its items, and numbers that bound what is not listed of their children
-pub record IsKept (l : Listing) (mode : SubIsotopologue) (kept : List SubIsotopologue) (unlisted : List ℕ) :
+-- the items of an element that are grown: all with an upper bound above a number
+pub record Grown : Type 0 where
+  pub element : Element
+  pub above : ℕ
+
+abbrev pub grown_items : Grown → List SubIsotopologue
+grown_items g = items_over g.element.weights g.element.atoms g.above
+
+-- What is kept of them: the element's mode, the items, and numbers that bound those of their children that are no items.
+pub record AreGrown (g : Grown) (mode : SubIsotopologue) (kept : List SubIsotopologue) (unlisted : List ℕ) :
     Type 0 where
+  pub weights : IsWeights g.element.weights
+  pub few_atoms : g.element.atoms ≤ 10000
+  pub few : length kept ≤ max_sub_isotopologues
+  pub mode_is : mode ≡ sub_isotopologue_of g.element.weights (mode_of_atoms g.element.weights g.element.atoms)
+  pub items_are : kept ≡ grown_items g
+  pub searched : AreSearched g.element.weights mode.counts g.above kept unlisted
+
+-- What a list keeps: how many of the grown items are its items. They are those above one number, which stands for the
+-- threshold of the products.
+pub record IsListed (l : Listing) (g : Grown) (listed : ℕ) : Type 0 where
   pub weights : IsWeights l.element.weights
-  pub few_atoms : l.element.atoms ≤ 10000
+  pub cut : ℕ
+  pub cuts : (hi : ℕ) → hi ≤ certainty → (l.threshold < product_with l.before l.after hi) ↔ (cut < hi)
   pub others : AreOthers l.before l.after
   pub at_most_one : l.threshold ≤ certainty
-  pub given : l.given ≤ length kept
-  pub few : length kept ≤ max_sub_isotopologues
-  pub mode_is : mode ≡ sub_isotopologue_of l.element.weights (mode_of_atoms l.element.weights l.element.atoms)
-  pub items_are : kept ≡ items_of l
-  pub searched : (cut : ℕ) → cut ≤ certainty →
-      ((hi : ℕ) → hi ≤ certainty → (l.threshold < product_with l.before l.after hi) ↔ (cut < hi)) →
-      AreSearched l.element.weights mode.counts cut kept unlisted
+  pub given : l.given ≤ listed
+  pub within : listed ≤ length (grown_items g)
+  pub items_are : take listed (grown_items g) ≡ items_of l

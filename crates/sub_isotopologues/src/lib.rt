@@ -12,14 +12,16 @@
 //! A [`SubIso`] is seen by contracts as its counts and both bounds, and a [`SubIsos`] as a listing: the weights and
 //! atoms of the element, the others, the threshold, and how many items were given; its items follow from these. The
 //! crate stands on `multinomial_bounds` for the bounds, on `sorted_lists` and `reader_answers` for definitions, on
-//! `isotopologue_list` for lemmas and as the plain list of its tests, and on `thiserror`. The layer above makes a list by [`SubIsos::start`], lowers it by
-//! [`SubIsos::lower_to`] and reads its [`SubIsos::items`]. What holds of every list is stated by
-//! [`sub_isotopologue_laws`].
+//! `isotopologue_list` for lemmas and as the plain list of its tests, and on `thiserror`. The layer above makes a list
+//! by [`SubIsos::start`], lowers it by [`SubIsos::lower_to`] and reads its [`SubIsos::items`]; for another formula with
+//! as many atoms of the element it begins the list again by [`SubIsos::restart`], and what was grown is found without a
+//! search. What holds of every list is stated by [`sub_isotopologue_laws`].
 #![tactic(auto)]
 
 mod children;
 mod cutoff;
 mod fault;
+mod grown;
 mod growth;
 mod laws;
 mod others;
@@ -27,10 +29,11 @@ mod sub_iso;
 mod sub_isos;
 
 pub use fault::SubFault;
+pub use grown::MAX_SUB_ISOTOPOLOGUES;
 pub use laws::sub_isotopologue_laws;
 pub use others::Others;
 pub use sub_iso::{MAX_ISOTOPES, SubIso};
-pub use sub_isos::{MAX_SUB_ISOTOPOLOGUES, SubIsos};
+pub use sub_isos::SubIsos;
 
 #[cfg(test)]
 mod tests;

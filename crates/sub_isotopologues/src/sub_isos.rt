@@ -4,65 +4,59 @@ ghost use Rattle.std.specs.Prelude.{AllPairs, length, take};
 ghost use Rattle.reader_answers.specs.Answers.{Gives, GivesAs};
 ghost use Rattle.sub_isotopologues.specs.ListAnswers.{is_memory, within_limit, resumed};
 ghost use Rattle.multinomial_bounds.specs.Weight.{IsWeights, IsCounts, weight_of, total_of};
-ghost use Rattle.multinomial_bounds.specs.Bounds.{certainty, IsEnclosure};
+ghost use Rattle.multinomial_bounds.specs.Bounds.{certainty, floor_of, ceiling_of, IsEnclosure};
+ghost use Rattle.multinomial_bounds.specs.Mode.{mode_bound};
 ghost use Rattle.sub_isotopologues.specs.SubIsotopologues.{SubIsotopologue, AreOthers};
 ghost use Rattle.sub_isotopologues.specs.Listings.{Listing, listing_of, lowered, with_given, items_of, places_left};
 ghost use Rattle.sub_isotopologues.specs.Listings.{max_sub_isotopologues};
 
-use crate::children::Wanted;
 use crate::cutoff::cutoff;
 use crate::fault::SubFault;
-use crate::growth::{added_items, unlisted_bounds};
+use crate::grown::GrownItems;
 use crate::others::Others;
 use crate::sub_iso::SubIso;
-use multinomial_bounds::{CERTAINTY, MAX_ATOMS, mode_of};
+use multinomial_bounds::{CERTAINTY, Enclosure, MAX_ATOMS};
 use std::alloc::{AllocError, Global};
 use std::marker::Model;
-
-/// The most items of a list.
-pub const MAX_SUB_ISOTOPOLOGUES: u64 = 1_048_576;
 
 /// The subisotopologues of one element whose product with the others is above a threshold, by falling upper bound, ties
 /// in the lexicographic order of their counts.
 ///
 /// The list is grown on demand: a lower threshold makes it longer and changes no item. It is seen as the weights and
-/// atoms of the element, the others, the threshold, and how many items were given.
+/// atoms of the element, the others, the threshold, and how many items were given. Items that were grown are kept where
+/// the list is begun again beside other elements.
 #[derive(Drop)]
 pub struct SubIsos {
-    weights: Vec<u64>,
-    atoms: u32,
+    grown: GrownItems,
+    /// How many of the grown items are above the threshold.
+    listed: usize,
     before: u64,
     after: Vec<u64>,
     threshold: u64,
     given: usize,
-    mode: SubIso,
-    items: Vec<SubIso>,
-    /// For the first items what bounds their children that are not listed, so that a lower threshold passes over those
-    /// that have none above it.
-    unlisted: Vec<u64>,
 }
 
 impl Model for SubIsos {
     ghost use Rattle.sub_isotopologues.specs.Listings.{Listing};
-    ghost use Rattle.sub_isotopologues.specs.Growth.{IsKept};
+    ghost use Rattle.sub_isotopologues.specs.Growth.{IsListed};
 
     ghost Value = { Listing };
 
     ghost view = { λ s. record {
-      element = record { weights = s.weights.items; atoms = s.atoms };
+      element = s.grown.element;
       before = s.before;
       after = s.after.items;
       threshold = s.threshold;
       given = s.given;
     } };
 
-    ghost invariant = { λ s. IsKept (record {
-      element = record { weights = s.weights.items; atoms = s.atoms };
+    ghost invariant = { λ s. IsListed (record {
+      element = s.grown.element;
       before = s.before;
       after = s.after.items;
       threshold = s.threshold;
       given = s.given;
-    }) s.mode s.items.items s.unlisted.items };
+    }) s.grown s.listed };
 }
 
 impl SubIsos {
@@ -81,18 +75,61 @@ impl SubIsos {
             s ≡ listing_of weights.now atoms others.entry.before others.entry.after.now certainty) }
         ensures empty { IfOk result (λ s. items_of s ≡ []) }
     {
-        let (mode, enclosure) = mode_of(alloc, weights, atoms)?;
         Ok(SubIsos {
-            weights: weights.to_vec(alloc)?,
-            atoms,
+            grown: GrownItems::start(alloc, weights, atoms)?,
+            listed: 0,
             before: others.before,
             after: others.after.to_vec(alloc)?,
             threshold: CERTAINTY,
             given: 0,
-            mode: SubIso::new(mode.counts(), enclosure),
-            items: Vec::new(alloc),
-            unlisted: Vec::new(alloc),
         })
+    }
+
+    /// Begins the list again beside other elements, with the threshold 10^18 and so without an item. The items that were
+    /// grown are kept: lowering the threshold as far as before finds them again without a search. Without memory
+    /// nothing changes.
+    pub fn restart(&mut self, others: Others<'_>) -> Result<(), AllocError>
+        requires others_in_range { AreOthers others.before others.after.now }
+        ensures restarted { OnOk result (self.new ≡ listing_of self.old.element.weights self.old.element.atoms
+            others.entry.before others.entry.after.now certainty) }
+        ensures unchanged { OnErr result (self.new ≡ self.old) }
+    {
+        replace_bounds(&mut self.after, others.after)?;
+        self.before = others.before;
+        self.threshold = CERTAINTY;
+        self.given = 0;
+        self.listed = 0;
+        Ok(())
+    }
+
+    /// The weights of the element's isotopes, by rising mass number.
+    pub fn weights(&self) -> &[u64]
+        ensures { result.now ≡ self.now.element.weights }
+    {
+        self.grown.weights()
+    }
+
+    /// How many atoms of the element there are.
+    pub fn atoms(&self) -> u32
+        ensures { result ≡ self.now.element.atoms }
+    {
+        self.grown.atoms()
+    }
+
+    /// The enclosure of the mode's probability, in units of 10^-18.
+    pub fn mode(&self) -> Enclosure
+        ensures lo { result.lo ≡ mode_bound floor_of self.now.element.weights self.now.element.atoms }
+        ensures hi { result.hi ≡ mode_bound ceiling_of self.now.element.weights self.now.element.atoms }
+    {
+        self.grown.mode()
+    }
+
+    /// How many items are kept in memory: those of the list, and more where it was longer before it was begun again.
+    pub fn kept_items(&self) -> usize
+        ensures at_least { length (items_of self.now) ≤ result }
+        ensures at_most { result ≤ max_sub_isotopologues }
+    {
+        self.grown.items().len()
     }
 
     /// The threshold that the products of the items are above, in units of 10^-18.
@@ -104,7 +141,7 @@ impl SubIsos {
 
     /// Lowers the threshold, in units of 10^-18: adds all counts whose product with the others is above the new one and
     /// not above the one kept. The items from before stay at the front, as they were. Time and memory are in proportion
-    /// to what is added, and to the number of items for each lowering.
+    /// to what is added that wasn't grown before, and then to the number of items for each lowering.
     ///
     /// `TooMany` exactly where the list would have more than 1,048,576 items, and `Memory` for want of memory. The list
     /// is then as it was.
@@ -114,30 +151,9 @@ impl SubIsos {
         ensures older_first { OnOk result (take (length (items_of self.old)) (items_of self.new) ≡ items_of self.old) }
         ensures unchanged { OnErr result (self.new ≡ self.old) }
     {
-        let wanted = Wanted {
-            above: cutoff(self.before, &self.after, threshold),
-            up_to: cutoff(self.before, &self.after, self.threshold),
-            most: MAX_SUB_ISOTOPOLOGUES as usize - self.items.len(),
-        };
-        let alloc = *self.items.allocator();
-        let mut added = added_items(
-            alloc,
-            &self.weights,
-            &self.mode,
-            &self.items,
-            &self.unlisted,
-            wanted,
-        )?;
-        let unlisted = unlisted_bounds(
-            alloc,
-            &self.weights,
-            &self.mode,
-            &self.items,
-            &self.unlisted,
-            wanted,
-        )?;
-        self.items.append(&mut added)?;
-        self.unlisted = unlisted;
+        let above = cutoff(self.before, &self.after, threshold);
+        self.grown.grow_to(above)?;
+        self.listed = self.grown.count_above(above);
         self.threshold = threshold;
         Ok(())
     }
@@ -154,7 +170,7 @@ impl SubIsos {
             (total_of self.now.element.weights self.now.element.atoms)) result.now }
         ensures falling { AllPairs (λ i j. j.hi ≤ i.hi) result.now }
     {
-        &self.items
+        &self.grown.items()[..self.listed]
     }
 
     /// The place of the next item that was not given yet, the first being 0. None exactly where all were given.
@@ -164,7 +180,7 @@ impl SubIsos {
         ensures given { OnSome result (self.new ≡ with_given self.old (self.old.given + 1)) }
         ensures unchanged { IfNone result (self.new ≡ self.old) }
     {
-        if self.given == self.items.len() {
+        if self.given == self.listed {
             return None;
         }
         let place = self.given;
@@ -201,10 +217,24 @@ impl SubIsos {
     {
         let mut list = SubIsos::start(alloc, weights, atoms, others)?;
         list.lower_to(threshold)?;
-        if token > list.items.len() as u64 {
+        if token > list.listed as u64 {
             return Err(SubFault::NotInList);
         }
         list.given = token as usize;
         Ok(list)
     }
+}
+
+/// Writes other bounds in place of those that are kept, in their memory where they fit.
+fn replace_bounds(kept: &mut Vec<u64>, bounds: &[u64]) -> Result<(), AllocError>
+    ensures replaced { OnOk result (kept.new.items ≡ bounds.now) }
+    ensures unchanged { OnErr result (kept.new.items ≡ kept.old.items) }
+{
+    if kept.len() < bounds.len() {
+        *kept = bounds.to_vec(*kept.allocator())?;
+        return Ok(());
+    }
+    kept.truncate(bounds.len());
+    kept.copy_from_slice(bounds);
+    Ok(())
 }

@@ -103,6 +103,46 @@ fn a_lower_threshold_adds_behind_the_items(rt: HostRuntime) -> Result<(), Fail> 
 }
 
 #[test]
+fn a_list_begun_again_has_the_items_of_a_new_one(rt: HostRuntime) -> Result<(), Fail> {
+    let none = Others {
+        before: UNIT,
+        after: &[],
+    };
+    let others = Others {
+        before: 300_000_000_000_000_000,
+        after: &[500_000_000_000_000_000, 900_000_000_000_000_000],
+    };
+    let mut list = SubIsos::resume(rt.alloc(), &SULFUR, 6, 1_000_000_000_000, none, 2)?;
+    let grown = list.items().len();
+    for (others, threshold, count) in [
+        (others, 1_000_000_000_000, 16),
+        (others, 100_000_000, 40),
+        (none, 1_000_000_000_000, grown),
+    ] {
+        list.restart(others)?;
+        assert_eq!(rt;
+            (list.items().len(), list.token(), list.threshold()),
+            (0, 0, UNIT)
+        );
+        list.lower_to(threshold)?;
+        let fresh = SubIsos::resume(rt.alloc(), &SULFUR, 6, threshold, others, 0)?;
+        assert_eq!(rt; list.items().len(), count);
+        assert_eq!(rt; list.items().len(), fresh.items().len());
+        for (item, same) in list.items().iter().zip(fresh.items()) {
+            assert_eq!(rt; item.counts(), same.counts());
+            assert_eq!(rt; item.enclosure(), same.enclosure());
+        }
+    }
+    assert!(rt; list.kept_items() >= 40);
+    assert_eq!(rt; (list.weights(), list.atoms()), (SULFUR.as_slice(), 6));
+    assert_eq!(rt;
+        list.items().first().map(|item| item.enclosure()),
+        Some(list.mode())
+    );
+    Ok(())
+}
+
+#[test]
 fn as_many_items_as_are_kept_are_listed_and_more_are_refused(rt: HostRuntime) -> Result<(), Fail> {
     let none = Others {
         before: UNIT,
