@@ -1,16 +1,12 @@
--- What a walk has counted, from one choice to the next.
-use Rattle.std.proofs.Common.{◌≡◌, ℕ, ◌+◌, ◌<◌, ◌≤◌, ltb, false, List, [], ◌∷◌, map, length, replicate, fold, Ok, refl, sym, ◌∙◌, ap, arith}
-use Rattle.std.specs.Prelude.{sum_by}
-use Rattle.std.proofs.lemmas.Bool.{le-ltb}
+-- The first choice of a walk, and the product of all its items.
+use Rattle.std.proofs.Common.{◌≡◌, ℕ, ◌<◌, List, ◌∷◌, map, length, replicate, fold, sym, ◌∙◌, ap, arith}
 use Rattle.std.proofs.lemmas.List.{length-map}
-use Rattle.std.proofs.lemmas.List.Sums.{sum_by-cons}
 use Rattle.multinomial_bounds.specs.Bounds.{certainty}
 use Rattle.sub_isotopologues.specs.Listings.{Listing, items_of}
 use Rattle.layered_envelope.specs.declared.walk.Choice.{Choice}
-use Rattle.layered_envelope.specs.declared.layer_end.TheConstants.{MAX_MEMBERS}
 use Rattle.layered_envelope.specs.ChosenPlaces.{AllFall, firsts}
 use Rattle.layered_envelope.specs.Walks.{lower, upper, los_of, his_of, reached, places_of, IsWalk, left_after}
-use Rattle.layered_envelope.specs.CountedWalks.{lo_at, hi_at, places_above, counted_walk}
+use Rattle.layered_envelope.specs.CountedWalks.{lo_at, hi_at, places_above}
 use Rattle.layered_envelope.proofs.RoundedProducts.{upper-rises}
 use Rattle.layered_envelope.proofs.NextChoice.{first_above}
 use Rattle.layered_envelope.proofs.WalkSteps.{reached_all}
@@ -42,24 +38,3 @@ first_place t lists places modes fall modes_are over is =
     let zeros : replicate (length (his_of lists)) 0 ≡ places = ap (λ (k : ℕ). replicate {A = ℕ} k 0) n ∙ sym is in
     first_above upper upper-rises t (his_of lists) certainty fall (rw (← modes_are) over)
     ∙ ap (λ ps. ps ∷ left_after t lists ps) zeros
-
--- one member before others, in their number and in a sum
-pub one_of : (all rest : List (List ℕ)) (place : List ℕ) → all ≡ place ∷ rest → length all ≡ 1 + length rest
-one_of all rest place split = ap length split ∙ omega arith
-
-pub sum_one_of : (f : List ℕ → ℕ) (all rest : List (List ℕ)) (place : List ℕ) → all ≡ place ∷ rest →
-    sum_by f all ≡ f place + sum_by f rest
-sum_one_of f all rest place split = ap (sum_by f) split ∙ sum_by-cons f place rest
-
-pub sum_none : (f : List ℕ → ℕ) (all : List (List ℕ)) → all ≡ [] → sum_by f all ≡ 0
-sum_none f all none = ap (sum_by f) none
-
--- all are counted
-pub counted_all : (t : ℕ) (lists : List Listing) (members lo hi : ℕ) → length (places_above t lists) ≡ members →
-    members ≤ MAX_MEMBERS → sum_by (lo_at lists) (places_above t lists) ≡ lo →
-    sum_by (hi_at lists) (places_above t lists) ≡ hi →
-    Ok (record { threshold = t; members = members; lo_total = lo; hi_total = hi }) ≡ counted_walk t lists
-counted_all t lists members lo hi n few l h =
-    let fits : ltb MAX_MEMBERS (length (places_above t lists)) ≡ false =
-    le-ltb MAX_MEMBERS (length (places_above t lists)) (omega (arith, n)) in
-    rw (fits, n, l, h) refl

@@ -1,6 +1,5 @@
 -- What layers answer, from what they keep.
 use Rattle.std.proofs.Common.{◌≡◌, ◌≢◌, ℕ, ◌+◌, ◌*◌, ◌<◌, ◌≤◌, true, false, ltb, eqb, List, Option, Some, None, Ok, Err, refl, sym, ◌∙◌, ap, arith, ⊎_elim}
-use Rattle.std.proofs.Math.Nat.{mul_comm}
 use Rattle.std.proofs.lemmas.Bool.{cases_lt, lt-ltb, le-ltb, eq-eqb, ne_eqb}
 use Rattle.multinomial_bounds.specs.Isotopologue.{Element}
 use Rattle.reader_answers.specs.Answers.{Gives}
@@ -37,24 +36,23 @@ module _ (l : Layering) where
   fault_given Memory more gives = tt
   fault_given (TooMany t) more gives = rw more (ap some_end gives)
 
-pub steps_within : (q members steps old : ℕ) → steps ≤ old + members * q → steps ≤ old + most_steps q members
+pub steps_within : (q members steps old : ℕ) → steps ≤ old + 2 * q * members → steps ≤ old + most_steps q members
 steps_within q members steps old within =
     ⊎_elim
     (λ (h : 0 < q).
     let some : eqb q 0 ≡ false = ne_eqb q 0 (λ e. omega arith) in
-    rw some (omega (arith, mul_comm members q)))
+    rw some (omega (arith, within)))
     (λ (h : q ≤ 0).
     let none : q ≡ 0 = omega arith in
-    let nothing : members * q ≡ 0 = rw none (omega arith) in
+    let nothing : 2 * q * members ≡ 0 = rw none (omega arith) in
     rw (eq-eqb q 0 none) (omega arith))
     (cases_lt 0 q)
 
-pub fault_steps_within : (q steps old : ℕ) (fault : LayerFault) → steps ≤ old + MAX_MEMBERS * q →
+pub fault_steps_within : (q steps old : ℕ) (fault : LayerFault) → steps ≤ old + 2 * q * (MAX_MEMBERS + 1) →
     (fault ≡ Memory → steps ≡ old) →
     steps ≤ old + most_end_steps q (Err fault)
 fault_steps_within q steps old Memory limit none = omega (arith, none refl)
-fault_steps_within q steps old (TooMany t) limit none =
-    steps_within q (MAX_MEMBERS + 1) steps old (omega (arith, mul_comm MAX_MEMBERS q))
+fault_steps_within q steps old (TooMany t) limit none = steps_within q (MAX_MEMBERS + 1) steps old limit
 
 abbrev pub layering : List Element → ℕ → Layering
 layering elements given = record { elements = elements; given = given }

@@ -10,9 +10,13 @@ pub mod ModeIsGreatest
 pub mod ItemsInOrder
 pub mod ListedLayers
 pub mod CountedSteps
+pub mod CountedParts
+pub mod CountedLayers
 pub mod StartedLists
+pub mod PlacedLists
 pub mod LoweredLists
 pub mod Thresholds
+pub mod LastEnds
 pub mod LayerAnswers
 pub mod PlacesOfLists
 pub mod MemberWalks

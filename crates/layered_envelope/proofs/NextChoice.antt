@@ -45,7 +45,7 @@ module _ (f : ℕ → ℕ → ℕ) (rises : (x y a b : ℕ) → x ≤ y → a �
         let here = below (omega arith) in
         rw (none_above ls (f x (get_or l k 0)) falls (omega arith)) refl)
 
-    from_first : (l : List ℕ) (ls : List (List ℕ)) (x p : ℕ) → p < length l →
+    pub from_first : (l : List ℕ) (ls : List (List ℕ)) (x p : ℕ) → p < length l →
         above_from f t x l ls p
         ≡ map (λ more. p ∷ more) (above f t (f x (get_or l p 0)) ls) ++ above_from f t x l ls (p + 1)
     from_first l ls x p within =
@@ -53,7 +53,7 @@ module _ (f : ℕ → ℕ → ℕ) (rises : (x y a b : ℕ) → x ≤ y → a �
         ap (λ (k : ℕ). flat_map (λ q. map (λ more. q ∷ more) (above f t (f x (get_or l q 0)) ls))
         (range_with_len p k)) n
 
-    from_start : (l : List ℕ) (ls : List (List ℕ)) (x : ℕ) → above f t x (l ∷ ls) ≡ above_from f t x l ls 0
+    pub from_start : (l : List ℕ) (ls : List (List ℕ)) (x : ℕ) → above f t x (l ∷ ls) ≡ above_from f t x l ls 0
     from_start l ls x =
         let n : length l ≡ length l - 0 = omega arith in
         ap (λ (k : ℕ). flat_map (λ q. map (λ more. q ∷ more) (above f t (f x (get_or l q 0)) ls))

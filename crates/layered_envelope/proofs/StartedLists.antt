@@ -1,7 +1,9 @@
 -- The lists as they are started, one element after another.
-use Rattle.std.proofs.Common.{◌≡◌, ℕ, ◌+◌, ◌-◌, ◌<◌, ◌≤◌, List, [], ◌∷◌, ◌++◌, map, length, get_or, take, drop, fold, sym, ◌∙◌, ap, subst, arith, ⊎_elim, All, length-append}
+use Rattle.std.proofs.Common.{◌≡◌, ℕ, ◌+◌, ◌-◌, ◌<◌, ◌≤◌, List, [], ◌∷◌, ◌++◌, map, length, get_or, set, take, drop}
+use Rattle.std.proofs.Common.{fold, sym, ◌∙◌, ap, subst, arith, inl, inr, All}
 use Rattle.std.proofs.lemmas.Bool.{cases_lt}
-use Rattle.std.proofs.lemmas.List.{take-map, map_more, map-append, take_more, take_all, get_or_append_left, get_or_at}
+use Rattle.std.proofs.lemmas.List.{length-map, get_or-map, take-map, map_more, map-set, set-get_or, take_more}
+use Rattle.std.proofs.lemmas.List.{get_or-set_same, get_or-set_other}
 use Rattle.std.proofs.lemmas.List.Elements.{All-map, All-weaker, All-take, All-drop}
 use Rattle.std.proofs.lemmas.List.Sums.{fold-append}
 use Rattle.multinomial_bounds.specs.Bounds.{certainty, ceiling_of}
@@ -29,19 +31,26 @@ modes-most es ok =
     (All-weaker (λ (e : Element). IsWeights e.weights) (λ e. mode_bound ceiling_of e.weights e.atoms ≤ certainty)
     (λ e is. (IsEnclosure-mode e.weights is.some (IsWeights-positive e.weights is) e.atoms).at_most_one) es ok)
 
-pub modes_more : (es : List Element) (i : ℕ) (e : Element) (ws : List ℕ) (n : ℕ) (so_far : List ℕ) (hi : ℕ) →
-    i < length es →
-    e ≡ get_or es i e → ws ≡ e.weights → n ≡ e.atoms → hi ≡ mode_bound ceiling_of ws n → so_far ≡ take i (modes_of es) →
-    so_far ++ hi ∷ [] ≡ take (i + 1) (modes_of es)
-modes_more es i e ws n so_far hi within is weights atoms bound before =
+pub modes_more : (lists : List Listing) (i : ℕ) (l : Listing) (so_far : List ℕ) (hi : ℕ) → i < length lists →
+    l ≡ get_or lists i l → hi ≡ mode_bound ceiling_of l.element.weights l.element.atoms →
+    so_far ≡ take i (modes_of (elements_of lists)) → so_far ++ hi ∷ [] ≡ take (i + 1) (modes_of (elements_of lists))
+modes_more lists i l so_far hi within is bound before =
     let mode : Element → ℕ = λ e. mode_bound ceiling_of e.weights e.atoms in
-    let here : hi ≡ mode (get_or es i e) =
-    bound ∙ ap (λ (k : ℕ). mode_bound ceiling_of ws k) atoms ∙ ap (λ xs. mode_bound ceiling_of xs e.atoms) weights
-    ∙ ap mode is in
+    let es : List Element = elements_of lists in
+    let here : hi ≡ mode (get_or es i l.element) =
+    bound ∙ ap (λ (l : Listing). mode l.element) is
+    ∙ ap mode (sym (get_or-map (λ (l : Listing). l.element) lists i l l.element within)) in
     ap (λ xs. xs ++ hi ∷ []) (before ∙ take-map mode i es)
     ∙ ap (λ (b : ℕ). map mode (take i es) ++ b ∷ []) here
-    ∙ sym (map_more mode es i e within)
+    ∙ sym (map_more mode es i l.element (rw (length-map lists (λ (l : Listing). l.element)) within))
     ∙ sym (take-map mode (i + 1) es)
+
+pub modes-length : (lists : List Listing) (modes : List ℕ) → modes ≡ modes_of (elements_of lists) →
+    length modes ≡ length lists
+modes-length lists modes are =
+    ap length are
+    ∙ length-map (elements_of lists) (λ (e : Element). mode_bound ceiling_of e.weights e.atoms)
+    ∙ length-map lists (λ (l : Listing). l.element)
 
 -- what is known of the others at each element
 module _ (es : List Element) (ok : AreElements es) (modes : List ℕ) (are : modes ≡ modes_of es) (k before : ℕ)
@@ -76,52 +85,51 @@ module _ (es : List Element) (ok : AreElements es) (modes : List ℕ) (are : mod
       ∙ sym (fold-append upper certainty (take k modes) (get_or modes k 0 ∷ []))
       ∙ ap (fold upper certainty) (sym (take_more modes k 0 within))
 
--- a fact of each item of a list with one more at its end
-pushed_at : {X : Type 0} (P : X → Type 0) (xs : List X) (x : X) (k : ℕ) (d : X) → k < length (xs ++ x ∷ []) →
-    (k < length xs → P (get_or xs k d)) → (k ≡ length xs → P x) → P (get_or (xs ++ x ∷ []) k d)
-pushed_at P xs x k d inside first last =
-    ⊎_elim {C = P (get_or (xs ++ x ∷ []) k d)}
-    (λ (h : k < length xs). subst P (sym (get_or_append_left xs (x ∷ []) d k h)) (first h))
-    (λ (h : length xs ≤ k).
-    let here : length xs ≡ k = omega (arith, length-append xs (x ∷ [])) in
-    subst P (sym (get_or_at xs x [] d k here)) (last (sym here)))
-    (cases_lt k (length xs))
+-- one list more is begun again
+module _ (lists : List Listing) (place : ℕ) (l older : Listing) (within : place < length lists)
+    (is : older ≡ get_or lists place older) (es : List Element) (modes : List ℕ) where
+  set_elements : l.element ≡ older.element → elements_of (set lists place l) ≡ elements_of lists
+  set_elements same =
+      map-set (λ (l : Listing). l.element) lists place l
+      ∙ ap (λ e. set (elements_of lists) place e)
+      (same
+      ∙ ap (λ (l : Listing). l.element) is
+      ∙ sym (get_or-map (λ (l : Listing). l.element) lists place older older.element within))
+      ∙ set-get_or (elements_of lists) place older.element
 
--- one list more
-pub AreStarted_more : (lists more : List Listing) (l : Listing) (es : List Element) (modes : List ℕ) (place : ℕ)
-    (e : Element) →
-    more ≡ lists ++ l ∷ [] → length lists ≡ place → place < length es → e ≡ get_or es place e → l.element ≡ e →
-    l.before ≡ fold upper certainty (take place modes) → l.after ≡ drop (place + 1) modes → l.threshold ≡ certainty →
-    AreStarted lists es modes → AreStarted more es modes
-AreStarted_more lists more l es modes place e pushed many within is element before after threshold started =
-    let n : length (lists ++ l ∷ []) ≡ place + 1 = omega (arith, length-append lists (l ∷ [])) in
-    rw pushed (record {
-      elements_are =
-          map-append (λ (l : Listing). l.element) lists (l ∷ [])
-          ∙ ap (λ xs. xs ++ l.element ∷ []) (started.elements_are ∙ ap (λ (k : ℕ). take k es) many)
-          ∙ ap (λ x. take place es ++ x ∷ []) (element ∙ is)
-          ∙ sym (take_more es place e within)
-          ∙ ap (λ (k : ℕ). take k es) (sym n);
-      before = λ k d inside.
-          pushed_at (λ x. x.before ≡ fold upper certainty (take k modes)) lists l k d inside (λ h. started.before k d h)
-          (λ h. before ∙ ap (λ (j : ℕ). fold upper certainty (take j modes)) (let e : place ≡ k = omega arith in e));
-      after = λ k d inside.
-          pushed_at (λ x. x.after ≡ drop (k + 1) modes) lists l k d inside (λ h. started.after k d h)
-          (λ h. after ∙ ap (λ (j : ℕ). drop (j + 1) modes) (let e : place ≡ k = omega arith in e));
-      threshold = λ k d inside.
-          pushed_at (λ x. x.threshold ≡ certainty) lists l k d inside (λ h. started.threshold k d h) (λ h. threshold);
-    })
+  set_at : (P : Listing → Type 0) (k : ℕ) (d : Listing) → k < place + 1 → (k < place → P (get_or lists k d)) →
+      (place ≡ k → P l) → P (get_or (set lists place l) k d)
+  set_at P k d inside first last =
+      elim (cases_lt k place) [
+        | inl below ↦ subst P (sym (get_or-set_other lists place k l d (omega arith))) (first below)
+        | inr from ↦
+            let here : place ≡ k = omega arith in
+            subst (λ j. P (get_or (set lists place l) j d)) here
+            (subst P (sym (get_or-set_same lists place l d within)) (last here))
+      ]
+
+  pub AreStarted_more : l.element ≡ older.element → l.before ≡ fold upper certainty (take place modes) →
+      l.after ≡ drop (place + 1) modes → l.threshold ≡ certainty →
+      AreStarted place lists es modes → AreStarted (place + 1) (set lists place l) es modes
+  AreStarted_more same before after threshold started = record {
+    elements_are = set_elements same ∙ started.elements_are;
+    before = λ k d inside.
+        set_at (λ x. x.before ≡ fold upper certainty (take k modes)) k d inside (λ h. started.before k d h)
+        (λ h. before ∙ ap (λ (j : ℕ). fold upper certainty (take j modes)) h);
+    after = λ k d inside.
+        set_at (λ x. x.after ≡ drop (k + 1) modes) k d inside (λ h. started.after k d h)
+        (λ h. after ∙ ap (λ (j : ℕ). drop (j + 1) modes) h);
+    threshold = λ k d inside.
+        set_at (λ x. x.threshold ≡ certainty) k d inside (λ h. started.threshold k d h) (λ h. threshold);
+  }
 
 -- all lists
 module _ (lists : List Listing) (es : List Element) (modes : List ℕ) (ok : AreElements es) (are : modes ≡ modes_of es)
-    (started : AreStarted lists es modes) (all : length lists ≡ length es) where
-  pub elements_are : elements_of lists ≡ es
-  elements_are = started.elements_are ∙ take_all (length lists) es (omega (arith, all))
-
+    (started : AreStarted (length lists) lists es modes) where
   pub lists_are : AreLists lists modes
   lists_are = record {
-    elements = rw elements_are ok;
-    modes_are = are ∙ ap modes_of (sym elements_are);
+    elements = rw started.elements_are ok;
+    modes_are = are ∙ ap modes_of (sym started.elements_are);
     before = started.before;
     after = started.after;
   }

@@ -17,6 +17,13 @@ use Rattle.layered_envelope.proofs.RoundedProducts.{fold-upper-some, fold-upper-
 use Rattle.layered_envelope.proofs.StartedLists.{modes-some, modes-most}
 use Rattle.layered_envelope.proofs.LoweredLists.{kinds-length, kinds-elements, AreLists-kinds}
 
+pub halving_falls : (n k : ℕ) → n / 2 ^ (k + 1) ≤ n / 2 ^ k
+halving_falls n k =
+    let powers : 2 ^ k ≤ 2 ^ (k + 1) = pow-le-pow_right {n = 2} (omega arith) (omega arith) in
+    let part : n / 2 ^ (k + 1) * 2 ^ (k + 1) ≤ n = div-mul-le_self n (2 ^ (k + 1)) in
+    le-div (n / 2 ^ (k + 1)) n (2 ^ k) (one-le-pow k 2 (omega arith))
+    (omega (arith, mul-le-mul_left (n / 2 ^ (k + 1)) powers))
+
 bounds_of-modes : (es : List Element) → All (λ e. IsWeights e.weights) es →
     bounds_of ceiling_of es (mode_of_each es) ≡ modes_of es
 unfolding bounds_of
@@ -50,12 +57,7 @@ module _ (es : List Element) (ok : All (λ e. IsWeights e.weights) es) where
       div-lt_self mode_hi-some two
 
   pub threshold_at-falls : (step : ℕ) → threshold_at es (step + 1) ≤ threshold_at es step
-  threshold_at-falls step =
-      let hi : ℕ = mode_hi es in
-      let powers : 2 ^ (step + 1) ≤ 2 ^ (step + 1 + 1) = pow-le-pow_right {n = 2} (omega arith) (omega arith) in
-      let part : hi / 2 ^ (step + 1 + 1) * 2 ^ (step + 1 + 1) ≤ hi = div-mul-le_self hi (2 ^ (step + 1 + 1)) in
-      le-div (hi / 2 ^ (step + 1 + 1)) hi (2 ^ (step + 1)) (one-le-pow (step + 1) 2 (omega arith))
-      (omega (arith, mul-le-mul_left (hi / 2 ^ (step + 1 + 1)) powers))
+  threshold_at-falls step = halving_falls (mode_hi es) (step + 1)
 
   pub threshold_at-last : threshold_at es 59 ≡ 0
   threshold_at-last = div-eq_of_lt (omega (arith, mode_hi-most))

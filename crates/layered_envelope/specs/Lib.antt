@@ -8,6 +8,7 @@ pub mod ChosenPlaces
 pub mod Walks
 pub mod PlacedLayers
 pub mod LayerLists
+pub mod ElementLists
 pub mod CountedWalks
 pub mod Layerings
 pub mod LayerWalks

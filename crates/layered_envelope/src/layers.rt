@@ -1,8 +1,9 @@
 //! The layers of a formula's isotopologues, one after another.
 
 use crate::fault::LayerFault;
+use crate::kept::GrownLists;
 use crate::layer_end::LayerEnd;
-use crate::lists::{modes_of, next_end, start_lists};
+use crate::lists::{modes_of, next_end, restart_lists, take_lists};
 use isotopologue_sets::ElementAtoms;
 use outside_ports::Steps;
 use std::alloc::{AllocError, Global};
@@ -20,17 +21,20 @@ pub struct Layers {
     /// The upper bound of the isotopologue of all modes.
     pub(crate) mode_hi: u64,
     pub(crate) given: u32,
+    /// What the layer given last has. Before the first one it is empty, of a threshold that nothing is above.
+    pub(crate) last: LayerEnd,
 }
 
 impl Model for Layers {
-    ghost use Rattle.layered_envelope.specs.LayerLists.{elements_of, AreLayers};
+    ghost use Rattle.layered_envelope.specs.LayerLists.{elements_of, AreLayers, IsLast};
     ghost use Rattle.layered_envelope.specs.Layerings.{Layering};
 
     ghost Value = { Layering };
 
     ghost view = { λ l. record { elements = elements_of l.lists.items; given = l.given } };
 
-    ghost invariant = { λ l. AreLayers l.lists.items l.modes.items l.mode_hi l.given };
+    ghost invariant = { λ l. AreLayers l.lists.items l.modes.items l.mode_hi l.given
+        × IsLast (elements_of l.lists.items) l.mode_hi l.given l.last };
 }
 
 impl Layers {
@@ -45,14 +49,36 @@ impl Layers {
         requires { AreElements elements.items }
         ensures { IfOk result (λ l. l ≡ record { elements = elements.items; given = 0 }) }
     {
-        let modes = modes_of(alloc, &elements)?;
-        let (lists, mode_hi) = start_lists(alloc, &elements, &modes)?;
+        Layers::start_with(alloc, &elements, &mut GrownLists::new(alloc))
+    }
+
+    /// The same as `start`, with lists that are kept from other formulas where there are such: no mode is found and no
+    /// counts are grown twice.
+    pub fn start_with(
+        alloc: Global,
+        elements: &[ElementAtoms],
+        kept: &mut GrownLists,
+    ) -> Result<Layers, AllocError>
+        requires { AreElements elements.now }
+        ensures { IfOk result (λ l. l ≡ record { elements = elements.entry.now; given = 0 }) }
+    {
+        let mut lists = take_lists(alloc, elements, kept)?;
+        let modes = modes_of(alloc, &lists)?;
+        let mode_hi = restart_lists(&mut lists, &modes)?;
         Ok(Layers {
             lists,
             modes,
             mode_hi,
             given: 0,
+            last: LayerEnd::empty(mode_hi),
         })
+    }
+
+    /// Gives the lists back to be kept for other formulas. What there is no memory or no room for is dropped.
+    pub fn give_back(self, kept: &mut GrownLists) {
+        for list in self.lists {
+            kept.keep(list);
+        }
     }
 
     /// Gives the next layer: its threshold, how many members it has, and what their lower and their upper bounds total.
@@ -73,9 +99,9 @@ impl Layers {
             return Ok(None);
         }
         let threshold = self.mode_hi >> (self.given + 1);
-        let alloc = *self.lists.allocator();
-        let end = next_end(alloc, &mut self.lists, &self.modes, threshold, steps)?;
+        let end = next_end(&mut self.lists, &self.modes, threshold, self.last, steps)?;
         self.given += 1;
+        self.last = end;
         Ok(Some(end))
     }
 }

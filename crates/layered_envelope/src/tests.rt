@@ -190,6 +190,60 @@ fn two_atoms_of_equal_isotopes_have_a_layer_of_one_and_then_of_three(
     Ok(())
 }
 
+/// So many atoms of carbon and of sulfur.
+fn carbon_and_sulfur(
+    alloc: Global,
+    carbon: u32,
+    sulfur: u32,
+) -> Result<Vec<ElementAtoms>, AllocError>
+    requires few_carbon { carbon ≤ 10000 }
+    requires few_sulfur { sulfur ≤ 10000 }
+    ensures { IfOk result (λ elements. AreElements elements.items) }
+{
+    let mut elements = Vec::new(alloc);
+    add_element(alloc, &mut elements, &CARBON, carbon)?;
+    add_element(alloc, &mut elements, &SULFUR, sulfur)?;
+    Ok(elements)
+}
+
+/// Whether the first layers are the same with lists that are kept as with new ones. Gives the lists back.
+fn are_same_with(
+    alloc: Global,
+    carbon: u32,
+    sulfur: u32,
+    kept: &mut GrownLists,
+) -> Result<bool, Fail>
+    requires few_carbon { carbon ≤ 10000 }
+    requires few_sulfur { sulfur ≤ 10000 }
+{
+    let elements = carbon_and_sulfur(alloc, carbon, sulfur)?;
+    let mut layers = Layers::start_with(alloc, &elements, kept)?;
+    let mut fresh = Layers::start(alloc, elements)?;
+    let mut are_same = true;
+    for _ in 0..20 {
+        let (end, same) = (next(&mut layers)?, next(&mut fresh)?);
+        are_same &= end == same && end.is_some();
+    }
+    layers.give_back(kept);
+    Ok(are_same)
+}
+
+#[test]
+fn layers_are_the_same_with_lists_from_other_formulas(rt: HostRuntime) -> Result<(), Fail> {
+    let alloc = rt.alloc();
+    let mut kept = GrownLists::new(alloc);
+    for (carbon, sulfur) in [(6, 2), (7, 2), (7, 3), (6, 2), (6, 3)] {
+        assert!(rt; are_same_with(alloc, carbon, sulfur, &mut kept)?);
+    }
+    let list = kept.take(&CARBON, 6).ok_or("no list is kept")?;
+    assert!(rt; list.kept_items() > 0);
+    assert!(rt; kept.take(&CARBON, 6).is_none());
+    assert!(rt; kept.take(&CARBON, 5).is_none());
+    kept.keep(list);
+    assert!(rt; kept.take(&CARBON, 6).is_some());
+    Ok(())
+}
+
 #[test]
 fn a_walk_goes_on_after_each_member_and_after_nothing_else(rt: HostRuntime) -> Result<(), Fail> {
     let alloc = rt.alloc();

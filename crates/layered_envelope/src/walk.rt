@@ -75,7 +75,7 @@ pub(crate) fn times_upper(x: u64, y: u64) -> u64
 }
 
 /// Whether the upper bound of the product of two probabilities is above a threshold, without a division.
-fn exceeds(x: u64, y: u64, threshold: u64) -> bool
+pub(crate) fn exceeds(x: u64, y: u64, threshold: u64) -> bool
     requires x { x ≤ certainty }
     requires y { y ≤ certainty }
     ensures { IsTrue result ↔ (threshold < upper x y) }

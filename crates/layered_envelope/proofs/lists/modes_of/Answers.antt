@@ -1,10 +1,8 @@
 use Rattle.layered_envelope.proofs.StartedLists.{modes_more}
 use Rattle.layered_envelope.proofs.lists.modes_of.Goals as goal
 
-pub loop-element-preserved : goal.loop-element-preserved
-loop-element-preserved c =
+pub loop-list-preserved : goal.loop-list-preserved
+loop-list-preserved c =
     rw c.in_ok-push.ensures.items
-    (modes_more c.args.elements.now c.loop-element.element-index c.element-item.result c.weights.result.now
-    c.atoms.result
-    c.loop-element.modes.items c.in_ok-mode.mode.hi c.loop-element-test.true c.element-item.is c.weights.ensures.value
-    c.atoms.ensures.value c.in_ok-mode.ensures.hi c.loop-element.invariant)
+    (modes_more c.args.lists.now c.loop-list.list-index c.list-item.result c.loop-list.modes.items c.mode.result.hi
+    c.loop-list-test.true c.list-item.is c.mode.ensures.hi c.loop-list.invariant)

@@ -14,12 +14,6 @@ returns-in_err-lower_lists-clause-gives g c =
     (fault-gives c.args.lists.now c.args.modes.now c.requires.lists c.args.threshold c.in_err-lower_lists.field-0.0
     c.in_err-lower_lists.ensures.too_long)
 
-pub first_choices-requires : goal.first_choices-requires
-first_choices-requires g c =
-    let new = c.lower_lists.new.lists in
-    let are = AreLists-kinds new c.args.lists.now c.in_ok-lower_lists.ensures.kinds c.args.modes.now c.requires.lists in
-    walk-falls new c.args.modes.now are c.args.threshold c.in_ok-lower_lists.ensures.ok c.requires.below
-
 pub count_members-requires-clause-falling : goal.count_members-requires-clause-falling
 count_members-requires-clause-falling g c =
     let new = c.lower_lists.new.lists in
@@ -36,6 +30,10 @@ pub count_members-requires-clause-at_most_one : goal.count_members-requires-clau
 count_members-requires-clause-at_most_one g c =
     let es = elements_of c.args.lists.now in
     rw c.requires.lists.modes_are (modes-most es c.requires.lists.elements.weights)
+
+pub count_members-requires-clause-last : goal.count_members-requires-clause-last
+count_members-requires-clause-last g c =
+    c.requires.last c.lower_lists.new.lists c.in_ok-lower_lists.ensures.kinds c.in_ok-lower_lists.ensures.ok
 
 pub returns-clause-gives : goal.returns-clause-gives
 returns-clause-gives g c =

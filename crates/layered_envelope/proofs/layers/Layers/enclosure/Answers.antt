@@ -10,7 +10,7 @@ pub product_at-requires : goal.product_at-requires
 product_at-requires c =
     let s = c.self.inside in
     rw (c.as_slice.ensures.value, c.places.ensures)
-    (given-ArePlaces s.lists.items s.modes.items s.mode_hi s.given c.self.invariant c.args.self.now c.self.view_is
+    (given-ArePlaces s.lists.items s.modes.items s.mode_hi s.given c.self.invariant.0 c.args.self.now c.self.view_is
     c.requires.given c.args.member.now c.requires.member)
 
 pub returns-clause-lo : goal.returns-clause-lo
@@ -18,15 +18,15 @@ unfolding lo_at
 returns-clause-lo c =
     let s = c.self.inside in
     let places =
-    given-ArePlaces s.lists.items s.modes.items s.mode_hi s.given c.self.invariant c.args.self.now c.self.view_is
+    given-ArePlaces s.lists.items s.modes.items s.mode_hi s.given c.self.invariant.0 c.args.self.now c.self.view_is
     c.requires.given c.args.member.now c.requires.member in
-    let es = given-elements s.lists.items s.modes.items s.mode_hi s.given c.self.invariant c.args.self.now
+    let es = given-elements s.lists.items s.modes.items s.mode_hi s.given c.self.invariant.0 c.args.self.now
     c.self.view_is
     c.requires.given in
     c.product_at.ensures.lo
     ∙ ap (λ ls. lo_at ls c.places.result.now) c.as_slice.ensures.value
     ∙ ap (lo_at s.lists.items) c.places.ensures
-    ∙ lo-at s.lists.items s.modes.items c.self.invariant.lists_are c.args.member.now places
+    ∙ lo-at s.lists.items s.modes.items c.self.invariant.0.lists_are c.args.member.now places
     ∙ ap (λ xs. lo_of xs (counts_at xs c.args.member.now)) es
 
 pub returns-clause-hi : goal.returns-clause-hi
@@ -34,13 +34,13 @@ unfolding hi_at
 returns-clause-hi c =
     let s = c.self.inside in
     let places =
-    given-ArePlaces s.lists.items s.modes.items s.mode_hi s.given c.self.invariant c.args.self.now c.self.view_is
+    given-ArePlaces s.lists.items s.modes.items s.mode_hi s.given c.self.invariant.0 c.args.self.now c.self.view_is
     c.requires.given c.args.member.now c.requires.member in
-    let es = given-elements s.lists.items s.modes.items s.mode_hi s.given c.self.invariant c.args.self.now
+    let es = given-elements s.lists.items s.modes.items s.mode_hi s.given c.self.invariant.0 c.args.self.now
     c.self.view_is
     c.requires.given in
     c.product_at.ensures.hi
     ∙ ap (λ ls. hi_at ls c.places.result.now) c.as_slice.ensures.value
     ∙ ap (hi_at s.lists.items) c.places.ensures
-    ∙ hi-at s.lists.items s.modes.items c.self.invariant.lists_are c.args.member.now places
+    ∙ hi-at s.lists.items s.modes.items c.self.invariant.0.lists_are c.args.member.now places
     ∙ ap (λ xs. hi_of xs (counts_at xs c.args.member.now)) es

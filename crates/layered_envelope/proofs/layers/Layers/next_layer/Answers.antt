@@ -3,9 +3,10 @@ use Rattle.std.proofs.lemmas.List.{take_at, length-map}
 use Rattle.std.proofs.lemmas.Result.{err_from_is_err_and}
 use Rattle.reader_answers.specs.Answers.{Gives}
 use Rattle.sub_isotopologues.specs.Listings.{Listing}
-use Rattle.layered_envelope.specs.LayerLists.{elements_of, kinds_of, AreLayers}
+use Rattle.layered_envelope.specs.LayerLists.{elements_of, kinds_of, AreLayers, IsLast}
 use Rattle.layered_envelope.specs.Layerings.{is_memory, next_end}
 use Rattle.layered_envelope.proofs.Thresholds.{next_is, last_is, next-lower, next-below, layers-lowered, layers-given}
+use Rattle.layered_envelope.proofs.LastEnds.{last-above, last-same, last-counted, last-given}
 use Rattle.layered_envelope.proofs.LoweredLists.{kinds-elements}
 use Rattle.layered_envelope.proofs.LayerAnswers.{layering, all_given, not_all_given, end_given, fault_given, steps_within, seen_given}
 use Rattle.layered_envelope.proofs.layers.Layers.next_layer.Goals as goal
@@ -14,19 +15,30 @@ use Rattle.layered_envelope.proofs.layers.Layers.next_layer.Goals.{else-self-gt0
 pub returns-then-self-eq0-clause-gives : goal.returns-then-self-eq0-clause-gives
 returns-then-self-eq0-clause-gives g c =
     let s = c.self.inside in
-    let last = last_is s.lists.items s.modes.items s.mode_hi s.given c.self.invariant c.if-self-gt0.true in
+    let last = last_is s.lists.items s.modes.items s.mode_hi s.given c.self.invariant.0 c.if-self-gt0.true in
     rw (← c.self.view_is)
     (all_given (layering (elements_of s.lists.items) s.given) c.if-self-gt0.true (sym last ∙ c.if-self-eq0.true))
 
 pub next_end-requires-clause-lower : goal.next_end-requires-clause-lower
 next_end-requires-clause-lower g c =
     let s = c.self.inside in
-    rw c.deref_mut.ensures.value (next-lower s.lists.items s.modes.items s.mode_hi s.given c.self.invariant)
+    rw c.deref_mut.ensures.value (next-lower s.lists.items s.modes.items s.mode_hi s.given c.self.invariant.0)
 
 pub next_end-requires-clause-below : goal.next_end-requires-clause-below
 next_end-requires-clause-below g c =
     let s = c.self.inside in
-    rw c.deref.ensures.value (next-below s.lists.items s.modes.items s.mode_hi s.given c.self.invariant)
+    rw c.deref.ensures.value (next-below s.lists.items s.modes.items s.mode_hi s.given c.self.invariant.0)
+
+pub next_end-requires-clause-last : goal.next_end-requires-clause-last
+next_end-requires-clause-last g c =
+    let s = c.self.inside in
+    rw c.deref_mut.ensures.value
+    (last-counted s.lists.items s.modes.items s.mode_hi s.given c.self.invariant.0 s.last c.self.invariant.1)
+
+pub next_end-requires-clause-last_above : goal.next_end-requires-clause-last_above
+next_end-requires-clause-last_above g c =
+    let s = c.self.inside in
+    last-above s.lists.items s.modes.items s.mode_hi s.given c.self.invariant.0 s.last c.self.invariant.1
 
 pub invariant_of-self : goal.invariant_of-self
 invariant_of-self g c =
@@ -35,9 +47,11 @@ invariant_of-self g c =
     let e = take_at new (drop (length new) s.lists.items) s.lists.len (c.next_end.auto.lists
     ∙ c.deref_mut.ensures.len) in
     let kinds = c.in_err-end.ensures.kinds ∙ ap kinds_of c.deref_mut.ensures.value in
-    subst (λ ls. AreLayers ls s.modes.items s.mode_hi s.given) (sym e)
-    (layers-lowered s.lists.items s.modes.items s.mode_hi s.given c.self.invariant new kinds
-    c.in_err-end.ensures.at_least (rw c.deref_mut.ensures.value at c.in_err-end.ensures.at_most))
+    subst (λ ls. AreLayers ls s.modes.items s.mode_hi s.given × IsLast (elements_of ls) s.mode_hi s.given s.last) (sym e) (
+      layers-lowered s.lists.items s.modes.items s.mode_hi s.given c.self.invariant.0 new kinds
+          c.in_err-end.ensures.at_least (rw c.deref_mut.ensures.value at c.in_err-end.ensures.at_most),
+      last-same s.lists.items s.modes.items s.mode_hi s.given c.self.invariant.0 s.last c.self.invariant.1 new kinds,
+    )
 
 pub returns-in_err-end-clause-gives : goal.returns-in_err-end-clause-gives
 returns-in_err-end-clause-gives g c =
@@ -51,9 +65,9 @@ returns-in_err-end-clause-gives g c =
       | else-self-gt0-via-else-self-gt0 w ↦ λ some. absurd (omega (arith, w.if-self-gt0.false))
     ] in
     let not_all = not_all_given (layering es s.given)
-    (λ some last. more some (last_is s.lists.items s.modes.items s.mode_hi s.given c.self.invariant some ∙ last)) in
+    (λ some last. more some (last_is s.lists.items s.modes.items s.mode_hi s.given c.self.invariant.0 some ∙ last)) in
     let gives =
-    rw (c.deref_mut.ensures.value, next_is s.lists.items s.modes.items s.mode_hi s.given c.self.invariant) at
+    rw (c.deref_mut.ensures.value, next_is s.lists.items s.modes.items s.mode_hi s.given c.self.invariant.0) at
     c.in_err-end.ensures.gives in
     rw (p.1, p.2)
     (subst (λ l. Gives is_memory (Err fault) (next_end l)) c.self.view_is
@@ -84,10 +98,17 @@ invariant_of-self-2 g c =
       | else-self-gt0-via-then-self-gt0+else-self-eq0 w ↦ λ some. w.if-self-eq0.false
       | else-self-gt0-via-else-self-gt0 w ↦ λ some. absurd (omega (arith, w.if-self-gt0.false))
     ] in
-    subst (λ ls. AreLayers ls s.modes.items s.mode_hi (s.given + 1)) (sym e)
-    (layers-given s.lists.items s.modes.items s.mode_hi s.given c.self.invariant new kinds
-    c.in_ok-end.ensures.at_least (rw c.deref_mut.ensures.value at c.in_ok-end.ensures.at_most)
-    c.in_ok-end.ensures.ok more)
+    let gives = rw c.deref_mut.ensures.value at c.in_ok-end.ensures.gives in
+    subst
+    (λ ls. AreLayers ls s.modes.items s.mode_hi (s.given + 1)
+    × IsLast (elements_of ls) s.mode_hi (s.given + 1) c.in_ok-end.end)
+    (sym e) (
+      layers-given s.lists.items s.modes.items s.mode_hi s.given c.self.invariant.0 new kinds
+          c.in_ok-end.ensures.at_least (rw c.deref_mut.ensures.value at c.in_ok-end.ensures.at_most)
+          c.in_ok-end.ensures.ok more,
+      last-given s.lists.items s.modes.items s.mode_hi s.given c.self.invariant.0 s.last c.self.invariant.1 new kinds
+          c.in_ok-end.end c.in_ok-end.ensures.fits c.in_ok-end.ensures.threshold gives,
+    )
 
 pub returns-clause-gives : goal.returns-clause-gives
 returns-clause-gives g c =
@@ -99,9 +120,9 @@ returns-clause-gives g c =
       | else-self-gt0-via-else-self-gt0 w ↦ λ some. absurd (omega (arith, w.if-self-gt0.false))
     ] in
     let not_all = not_all_given (layering es s.given)
-    (λ some last. more some (last_is s.lists.items s.modes.items s.mode_hi s.given c.self.invariant some ∙ last)) in
+    (λ some last. more some (last_is s.lists.items s.modes.items s.mode_hi s.given c.self.invariant.0 some ∙ last)) in
     let gives =
-    rw (c.deref_mut.ensures.value, next_is s.lists.items s.modes.items s.mode_hi s.given c.self.invariant) at
+    rw (c.deref_mut.ensures.value, next_is s.lists.items s.modes.items s.mode_hi s.given c.self.invariant.0) at
     c.in_ok-end.ensures.gives in
     rw (← c.self.view_is) (end_given (layering es s.given) c.in_ok-end.end not_all gives)
 

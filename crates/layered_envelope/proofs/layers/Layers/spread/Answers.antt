@@ -13,9 +13,9 @@ pub bounds-places-element : goal.bounds-places-element
 bounds-places-element c =
     let s = c.self.inside in
     let places =
-    given-ArePlaces s.lists.items s.modes.items s.mode_hi s.given c.self.invariant c.args.self.now c.self.view_is
+    given-ArePlaces s.lists.items s.modes.items s.mode_hi s.given c.self.invariant.0 c.args.self.now c.self.view_is
     c.requires.given c.args.member.now c.requires.member in
-    let es = given-elements s.lists.items s.modes.items s.mode_hi s.given c.self.invariant c.args.self.now
+    let es = given-elements s.lists.items s.modes.items s.mode_hi s.given c.self.invariant.0 c.args.self.now
     c.self.view_is
     c.requires.given in
     rw c.places.ensures
@@ -32,9 +32,9 @@ pub counts_of-requires-clause-within : goal.counts_of-requires-clause-within
 counts_of-requires-clause-within c =
     let s = c.self.inside in
     let places =
-    given-ArePlaces s.lists.items s.modes.items s.mode_hi s.given c.self.invariant c.args.self.now c.self.view_is
+    given-ArePlaces s.lists.items s.modes.items s.mode_hi s.given c.self.invariant.0 c.args.self.now c.self.view_is
     c.requires.given c.args.member.now c.requires.member in
-    let es = given-elements s.lists.items s.modes.items s.mode_hi s.given c.self.invariant c.args.self.now
+    let es = given-elements s.lists.items s.modes.items s.mode_hi s.given c.self.invariant.0 c.args.self.now
     c.self.view_is
     c.requires.given in
     let n = length-map s.lists.items (λ (l : Listing). l.element) in
@@ -47,15 +47,15 @@ pub returns : goal.returns
 returns c =
     let s = c.self.inside in
     let places =
-    given-ArePlaces s.lists.items s.modes.items s.mode_hi s.given c.self.invariant c.args.self.now c.self.view_is
+    given-ArePlaces s.lists.items s.modes.items s.mode_hi s.given c.self.invariant.0 c.args.self.now c.self.view_is
     c.requires.given c.args.member.now c.requires.member in
-    let es = given-elements s.lists.items s.modes.items s.mode_hi s.given c.self.invariant c.args.self.now
+    let es = given-elements s.lists.items s.modes.items s.mode_hi s.given c.self.invariant.0 c.args.self.now
     c.self.view_is
     c.requires.given in
     let n = length-map s.lists.items (λ (l : Listing). l.element) in
     let within : c.args.element < length s.lists.items = omega (arith, c.requires.element, ap length es, n) in
     let place = ap (λ ps. get_or ps c.args.element 0) c.places.ensures in
-    counts-at s.lists.items s.modes.items c.self.invariant.lists_are c.args.member.now places c.args.element
+    counts-at s.lists.items s.modes.items c.self.invariant.0.lists_are c.args.member.now places c.args.element
     (get_or c.places.result.now c.args.element 0) c.counts_of.result.now within place
     (rw c.as_slice.ensures.value at c.counts_of.ensures)
     ∙ ap (λ xs. get_or (counts_at xs c.args.member.now) c.args.element c.counts_of.result.now) es

@@ -8,7 +8,7 @@ use Rattle.layered_envelope.proofs.members.Members.resume.Goals as goal
 pub returns-then-not-is_member-clause-not_in_layer : goal.returns-then-not-is_member-clause-not_in_layer
 returns-then-not-is_member-clause-not_in_layer c =
     let s = c.layers.inside in
-    let member = given-member s.lists.items s.modes.items s.mode_hi s.given c.layers.invariant c.args.layers.now
+    let member = given-member s.lists.items s.modes.items s.mode_hi s.given c.layers.invariant.0 c.args.layers.now
     c.layers.view_is c.requires c.args.after.now in
     let fails = rw (c.as_slice-lists.ensures.value, c.places.ensures) at c.if-not-is_member.ensures.1 in
     (λ _ has. false≢true (fails (member.1 has)), λ _. refl)
@@ -16,7 +16,7 @@ returns-then-not-is_member-clause-not_in_layer c =
 pub returns-in_err-choices-clause-not_in_layer : goal.returns-in_err-choices-clause-not_in_layer
 returns-in_err-choices-clause-not_in_layer c =
     let s = c.layers.inside in
-    let member = given-member s.lists.items s.modes.items s.mode_hi s.given c.layers.invariant c.args.layers.now
+    let member = given-member s.lists.items s.modes.items s.mode_hi s.given c.layers.invariant.0 c.args.layers.now
     c.layers.view_is c.requires c.args.after.now in
     let test = rw (c.as_slice-lists.ensures.value, c.places.ensures) at (c.if-not-is_member.ensures.0 refl) in
     let has = member.0 test in
@@ -27,7 +27,7 @@ pub invariant_of-result : goal.invariant_of-result
 invariant_of-result c =
     let s = c.layers.inside in
     rw (c.as_slice-lists.ensures.value, c.as_slice-modes.ensures.value)
-    (members-go_on s.lists.items s.modes.items s.mode_hi s.given c.layers.invariant c.args.layers.now c.layers.view_is
+    (members-go_on s.lists.items s.modes.items s.mode_hi s.given c.layers.invariant.0 c.args.layers.now c.layers.view_is
     c.requires
     c.in_ok-choices.choices.items (rw c.as_slice-lists.ensures.value at c.in_ok-choices.ensures.walk))
 
@@ -35,7 +35,7 @@ pub returns-clause-resumed : goal.returns-clause-resumed
 returns-clause-resumed c =
     let s = c.layers.inside in
     rw (c.as_slice-lists.ensures.value, c.in_ok-choices.ensures.places, c.places-2.ensures)
-    (seen-walk s.lists.items s.modes.items s.mode_hi s.given c.layers.invariant c.args.layers.now c.layers.view_is
+    (seen-walk s.lists.items s.modes.items s.mode_hi s.given c.layers.invariant.0 c.args.layers.now c.layers.view_is
     c.requires
     (Some c.args.after.now))
 
@@ -43,7 +43,7 @@ pub returns-clause-rest_left : goal.returns-clause-rest_left
 returns-clause-rest_left c =
     let s = c.layers.inside in
     rw (c.as_slice-lists.ensures.value, c.in_ok-choices.ensures.places, c.places-2.ensures)
-    (ap left (seen-walk s.lists.items s.modes.items s.mode_hi s.given c.layers.invariant c.args.layers.now
+    (ap left (seen-walk s.lists.items s.modes.items s.mode_hi s.given c.layers.invariant.0 c.args.layers.now
     c.layers.view_is
     c.requires (Some c.args.after.now))
     ∙ left-walk_of c.args.layers.now (Some c.args.after.now))
@@ -51,7 +51,7 @@ returns-clause-rest_left c =
 pub returns-clause-in_layer : goal.returns-clause-in_layer
 returns-clause-in_layer c =
     let s = c.layers.inside in
-    let member = given-member s.lists.items s.modes.items s.mode_hi s.given c.layers.invariant c.args.layers.now
+    let member = given-member s.lists.items s.modes.items s.mode_hi s.given c.layers.invariant.0 c.args.layers.now
     c.layers.view_is c.requires c.args.after.now in
     let test = rw (c.as_slice-lists.ensures.value, c.places.ensures) at (c.if-not-is_member.ensures.0 refl) in
     let has = member.0 test in
@@ -60,7 +60,7 @@ returns-clause-in_layer c =
 pub returns-clause-not_in_layer : goal.returns-clause-not_in_layer
 returns-clause-not_in_layer c =
     let s = c.layers.inside in
-    let member = given-member s.lists.items s.modes.items s.mode_hi s.given c.layers.invariant c.args.layers.now
+    let member = given-member s.lists.items s.modes.items s.mode_hi s.given c.layers.invariant.0 c.args.layers.now
     c.layers.view_is c.requires c.args.after.now in
     let test = rw (c.as_slice-lists.ensures.value, c.places.ensures) at (c.if-not-is_member.ensures.0 refl) in
     let has = member.0 test in
