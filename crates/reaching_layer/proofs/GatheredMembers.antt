@@ -1,6 +1,6 @@
 -- Members that are gathered one after another, and the rows that they have.
-use Rattle.std.proofs.Common.{◌≡◌, ℕ, zero, suc, ◌+◌, ◌<◌, ◌≤◌, List, [], ◌∷◌, ◌++◌, length, get_or, map, sum, take, drop, refl, sym, ◌∙◌, ap, subst, arith, All, append_assoc, append-nil, length-append}
-use Rattle.std.specs.Prelude.{Contains, flat_map}
+use Rattle.std.proofs.Common.{◌≡◌, ℕ, zero, suc, ◌+◌, List, [], ◌∷◌, ◌++◌, length, get_or, map, sum, take, drop, refl, sym, ◌∙◌, ap, subst, arith, All, append_assoc, append-nil, length-append}
+use Rattle.std.specs.Prelude.{Contains}
 use Rattle.std.specs.List.{concat}
 use Rattle.std.proofs.Math.Seq.{take-append_seam, drop-append_seam}
 use Rattle.std.proofs.lemmas.List.{get_or-map, length-map}
@@ -8,10 +8,10 @@ use Rattle.std.proofs.lemmas.List.Sorted.{All-permutation}
 use Rattle.std.proofs.lemmas.List.Elements.{All-head, All-tail}
 use Rattle.multinomial_bounds.proofs.CompositionLemmas.{sum-cons}
 use Rattle.multinomial_bounds.specs.Isotopologue.{Element, IsIsotopologue}
-use Rattle.isotopologue_sets.specs.Layers.{lo_of, hi_of, layer}
+use Rattle.isotopologue_sets.specs.Layers.{layer}
 use Rattle.isotopologue_sets.proofs.LayerLaws.{layer-IsIsotopologue}
 use Rattle.layered_envelope.proofs.LayersByPlace.{layer-IsPermutation}
-use Rattle.isotopologue_sets.specs.Covers.{Member, member_of}
+use Rattle.isotopologue_sets.specs.Covers.{member_of}
 use Rattle.isotopologue_list.proofs.FlatLemmas.{flat_map_push}
 use Rattle.layered_envelope.specs.PlacedLayers.{counts_at, layer_places}
 use Rattle.reaching_layer.specs.declared.members.Row.{Row}

@@ -1,5 +1,5 @@
 -- The counts of a member, one element after another, and members by their rows.
-use Rattle.std.proofs.Common.{◌≡◌, ℕ, zero, suc, ◌+◌, ◌*◌, ◌<◌, ◌≤◌, List, [], ◌∷◌, ◌++◌, length, get_or, map, sum, take, drop, refl, sym, ◌∙◌, ap, arith, All, append_assoc, append-nil, length-append}
+use Rattle.std.proofs.Common.{◌≡◌, ℕ, ◌+◌, ◌*◌, ◌<◌, ◌≤◌, List, [], ◌∷◌, ◌++◌, length, get_or, map, sum, take, drop, refl, sym, ◌∙◌, ap, arith, All, append_assoc, append-nil, length-append}
 use Rattle.std.specs.List.{concat}
 use Rattle.std.proofs.Math.Seq.{take-add, take-append_seam, drop-append_seam}
 use Rattle.std.proofs.lemmas.List.{length-map, length-take, get_or-map, take_more, take_all}
@@ -7,7 +7,6 @@ use Rattle.std.proofs.lemmas.List.Folds.{concat-append}
 use Rattle.std.proofs.lemmas.List.Elements.{All-head, All-tail}
 use Rattle.multinomial_bounds.proofs.CompositionLemmas.{sum-cons}
 use Rattle.multinomial_bounds.specs.Isotopologue.{Element, IsIsotopologue}
-use Rattle.isotopologue_sets.specs.Layers.{AreElements}
 use Rattle.isotopologue_sets.specs.Covers.{Member}
 use Rattle.isotopologue_list.proofs.FlatLemmas.{map_map}
 use Rattle.reaching_layer.specs.declared.members.Row.{Row}

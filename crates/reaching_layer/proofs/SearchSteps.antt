@@ -1,5 +1,5 @@
 -- How the search for a cover goes on from layer to layer, and how it ends.
-use Rattle.std.proofs.Common.{◌≡◌, ℕ, zero, suc, ◌+◌, ◌-◌, ◌<◌, ◌≤◌, Bool, true, false, cond, ltb, leb, Option, Some, None, Result, Ok, Err, List, ◌∷◌, length, map, refl, sym, ◌∙◌, ap, arith, ⊎_elim}
+use Rattle.std.proofs.Common.{◌≡◌, ℕ, zero, suc, ◌+◌, ◌-◌, ◌<◌, ◌≤◌, Bool, true, false, cond, Option, Some, None, Result, Ok, Err, List, ◌∷◌, map, refl, sym, ◌∙◌, ap, arith, ⊎_elim}
 use Rattle.std.specs.Prelude.{◌||◌, find, unwrap_or}
 use Rattle.std.specs.List.{range_with_len}
 use Rattle.std.proofs.lemmas.Bool.{false≢true, le-leb, lt-leb, and_parts, eqb-true, ltb-true, cases_lt}
@@ -12,7 +12,7 @@ use Rattle.isotopologue_sets.proofs.FirstThreshold.{threshold_at-last}
 use Rattle.layered_envelope.specs.declared.fault.LayerFault.{LayerFault}
 use Rattle.layered_envelope.specs.declared.fault.LayerFault.TheVariants as layer
 use Rattle.layered_envelope.specs.declared.layer_end.LayerEnd.{LayerEnd}
-use Rattle.layered_envelope.specs.Layerings.{Layering, last_threshold, next_threshold, are_all_given, layer_end, end_within_limit, some_end, next_end, with_next}
+use Rattle.layered_envelope.specs.Layerings.{Layering, last_threshold, next_threshold, are_all_given, layer_end, some_end, next_end, with_next}
 use Rattle.layered_envelope.specs.Layerings.{is_memory as is_layer_memory}
 use Rattle.reaching_layer.specs.Searches.{AtReaching, EndsByFault}
 use Rattle.reaching_layer.specs.LayerAnswers.{of_layer_fault}

@@ -5,7 +5,7 @@ use crate::fewest::fewest;
 use crate::members::Members;
 use crate::search::layers_to_reaching;
 use isotopologue_sets::ElementAtoms;
-use layered_envelope::{LayerEnd, Layers};
+use layered_envelope::{GrownLists, LayerEnd, Layers};
 use multinomial_bounds::Enclosure;
 use std::alloc::{AllocError, Global};
 use std::marker::Model;
@@ -119,8 +119,33 @@ pub fn reaching_layer(
     ensures width { IfOk result (λ l. All (λ m.
         m.hi ≤ m.lo + (2 * all_atoms elements.now + length elements.now - 1)) l.members) }
 {
-    let (layers, end) = layers_to_reaching(alloc, elements, coverage)?;
-    Ok(layer_of(alloc, elements, &layers, end, coverage)?)
+    reaching_layer_with(alloc, elements, coverage, &mut GrownLists::new(alloc))
+}
+
+/// The same, which begins with the lists of elements that an earlier one kept, and keeps those of its own.
+pub fn reaching_layer_with(
+    alloc: Global,
+    elements: &[ElementAtoms],
+    coverage: u64,
+    kept: &mut GrownLists,
+) -> Result<ReachingLayer, CoverFault>
+    requires elements { AreElements elements.now }
+    requires some { 1 ≤ coverage }
+    requires below_one { coverage ≤ max_coverage }
+    ensures cover { Gives is_memory result (numbers_unless_too_many elements.now coverage) }
+
+    // What follows from these numbers.
+    ensures isotopologues { IfOk result (λ l. All (λ m. IsIsotopologue elements.now m.counts) l.members) }
+    ensures claims { IfOk result (λ l. IsCover elements.now coverage l.size l.bound l.members) }
+    ensures encloses { IfOk result (λ l. All (λ m.
+        IsEnclosure m.lo m.hi (isotopologue_weight elements.now m.counts) (all_weight elements.now)) l.members) }
+    ensures width { IfOk result (λ l. All (λ m.
+        m.hi ≤ m.lo + (2 * all_atoms elements.now + length elements.now - 1)) l.members) }
+{
+    let (layers, end) = layers_to_reaching(alloc, elements, coverage, kept)?;
+    let layer = layer_of(alloc, elements, &layers, end, coverage)?;
+    layers.give_back(kept);
+    Ok(layer)
 }
 
 /// The reaching layer, which was given last.

@@ -12,7 +12,8 @@
 //! counts and the two bounds of its probability. The crate stands on `layered_envelope` for layers and their members,
 //! on `isotopologue_sets` for what a cover is, on `outside_ports` for a counter of steps, on `isotopologue_list` for
 //! lemmas and as the plain list of its tests, on `multinomial_bounds`, `sorted_lists`, `reader_answers` and `thiserror`.
-//! The layers above ask [`reaching_layer`] and add texts and masses to what it gives.
+//! The layers above ask [`reaching_layer`], or [`reaching_layer_with`] for one list of elements after another, and add
+//! texts and masses to what it gives.
 #![tactic(auto)]
 
 mod fault;
@@ -22,8 +23,8 @@ mod members;
 mod search;
 
 pub use fault::CoverFault;
-pub use layer::{ReachingLayer, reaching_layer};
-pub use layered_envelope::MAX_MEMBERS;
+pub use layer::{ReachingLayer, reaching_layer, reaching_layer_with};
+pub use layered_envelope::{GrownLists, MAX_MEMBERS};
 
 #[cfg(test)]
 mod tests;

@@ -7,7 +7,7 @@ ghost use Rattle.reaching_layer.specs.Searches.{AtReaching, EndsByFault};
 
 use crate::fault::CoverFault;
 use isotopologue_sets::ElementAtoms;
-use layered_envelope::{LayerEnd, Layers};
+use layered_envelope::{GrownLists, LayerEnd, Layers};
 use outside_ports::Steps;
 use std::alloc::{AllocError, Global};
 use std::marker::Brand;
@@ -16,11 +16,13 @@ use std::sync::ledger::{Blank, Ledger};
 /// The 60th threshold is 0, since 60 halvings take away all of an upper bound, which is at most 10^18.
 const MAX_LAYERS: u32 = 60;
 
-/// The layers of elements up to the reaching layer, which is the one given last, and what that has.
+/// The layers of elements up to the reaching layer, which is the one given last, and what that has. They begin with
+/// the lists that were kept.
 pub(crate) fn layers_to_reaching(
     alloc: Global,
     elements: &[ElementAtoms],
     coverage: u64,
+    kept: &mut GrownLists,
 ) -> Result<(Layers, LayerEnd), CoverFault>
     requires elements { AreElements elements.now }
     requires below_one { coverage ≤ max_coverage }
@@ -28,20 +30,9 @@ pub(crate) fn layers_to_reaching(
     ensures threshold { IfOk result (λ found. found.1.threshold ≡ last_threshold found.0) }
     ensures fault { IfErr result (EndsByFault elements.now coverage) }
 {
-    let mut layers = Layers::start(alloc, copied(alloc, elements)?)?;
+    let mut layers = Layers::start_with(alloc, elements, kept)?;
     let end = search_with::<Brand>(&mut layers, coverage, Blank::new(1))?;
     Ok((layers, end))
-}
-
-/// The same elements.
-fn copied(alloc: Global, elements: &[ElementAtoms]) -> Result<Vec<ElementAtoms>, AllocError>
-    ensures { IfOk result (λ copies. copies.items ≡ elements.now) }
-{
-    let mut copies = Vec::new(alloc);
-    for element in elements {
-        copies.push(ElementAtoms::of(alloc, element.weights(), element.atoms())?)?;
-    }
-    Ok(copies)
 }
 
 /// Gives layers up to the reaching layer, and tells what that has. The layer of threshold 0 has the coverage or too

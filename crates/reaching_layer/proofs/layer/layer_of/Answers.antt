@@ -1,7 +1,7 @@
 -- The reaching layer's members, counted off, are the cover's numbers.
 use Rattle.std.proofs.Common.{◌≡◌, ℕ, List, length, map, sum, take, refl, sym, ◌∙◌, ap}
 use Rattle.isotopologue_sets.specs.Layers.{reaching_threshold}
-use Rattle.isotopologue_sets.specs.Covers.{Member, member_of, fewest, ordered_layer}
+use Rattle.isotopologue_sets.specs.Covers.{member_of, fewest, ordered_layer}
 use Rattle.isotopologue_sets.proofs.AllReach.{reaching_threshold-last}
 use Rattle.reaching_layer.proofs.CoverNumbers.{cover_numbers_are, size-within}
 use Rattle.reaching_layer.proofs.layer.layer_of.Goals as goal

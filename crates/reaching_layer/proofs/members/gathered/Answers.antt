@@ -1,11 +1,11 @@
 -- One member more, with its row and its counts.
-use Rattle.std.proofs.Common.{◌≡◌, ℕ, ◌+◌, ◌++◌, ◌∷◌, List, [], length, take, drop, refl, sym, ◌∙◌, ap, subst, arith, length-append, rules}
+use Rattle.std.proofs.Common.{◌≡◌, ℕ, ◌+◌, ◌++◌, ◌∷◌, List, [], length, take, refl, sym, ◌∙◌, ap, subst, arith, length-append, rules}
 use Rattle.std.specs.Prelude.{IfSome}
 use Rattle.std.specs.List.{concat}
 use Rattle.multinomial_bounds.specs.Isotopologue.{Element}
 use Rattle.isotopologue_sets.specs.Layers.{lo_of, hi_of}
 use Rattle.layered_envelope.specs.PlacedLayers.{counts_at}
-use Rattle.layered_envelope.specs.Layerings.{last_threshold, last_places}
+use Rattle.layered_envelope.specs.Layerings.{last_places}
 use Rattle.layered_envelope.specs.LayerWalks.{LayerWalk, left}
 use Rattle.reaching_layer.specs.declared.members.Row.{Row}
 use Rattle.reaching_layer.specs.GatheredRows.{end_to_end, IsRow, AreRows}

@@ -2,7 +2,7 @@ use Rattle.std.proofs.Common.{ap, arith, ◌∙◌}
 use Rattle.std.specs.Prelude.{Ok}
 use Rattle.std.proofs.lemmas.Result.{err_from_is_err_and}
 use Rattle.layered_envelope.specs.Layerings.{with_next}
-use Rattle.reaching_layer.proofs.SearchSteps.{never_all, never_none, reached, goes_on, faulty}
+use Rattle.reaching_layer.proofs.SearchSteps.{never_all, never_none, reached, faulty}
 use Rattle.reaching_layer.proofs.search.search_with.Goals as goal
 
 pub returns-in_err-end-clause-fault : goal.returns-in_err-end-clause-fault
