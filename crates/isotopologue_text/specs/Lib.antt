@@ -1,3 +1,5 @@
 pub mod Isotopologues
 pub mod ReadCounts
 pub mod Printed
+pub mod Labels
+pub mod Weighed

@@ -1,11 +1,9 @@
 -- What the isotopologues of one formula are printed with.
-use Rattle.std.specs.Prelude.{ℕ, ◌≡◌, ◌+◌, ◌==◌, ◌++◌, Bool, List, [], Vec, map, if◌then◌else◌}
-use Rattle.std.specs.Global.{Global}
+use Rattle.std.specs.Prelude.{ℕ, ◌+◌, Bool, List, if◌then◌else◌}
 use Rattle.std.specs.List.{list_any}
 use Rattle.element_table.specs.declared.element.Isotope.{Isotope}
 use Rattle.element_table.specs.Elements.{TableEntries}
 use Rattle.written_items.specs.declared.item.Item.{Item}
-use Rattle.written_items.specs.Items.{count_text, item_text}
 use Rattle.formula_text.specs.Masses.{mass_of}
 use Rattle.isotopologue_text.specs.Isotopologues.{is_plain, labelled_items, isotope_items, formula_isotopes, counts_text, counts_mass, dash}
 
@@ -32,10 +30,3 @@ printed_text printed counts = if printed.has_plain then counts_text printed.item
 
 abbrev pub printed_mass : Printed → List ℕ → ℕ
 printed_mass printed counts = counts_mass printed.isotopes counts + printed.labelled
-
--- For private contracts: these are the texts of items, and a text with a count is printed as an isotope is.
-abbrev pub AreLabels : List Item → List (Vec ℕ Global) → Type 0
-AreLabels items labels = map (λ l. l.items) labels ≡ map item_text items
-
-abbrev pub labelled_text : List ℕ → ℕ → List ℕ
-labelled_text label count = if count == 0 then [] else (label ++ count_text count)

@@ -3,17 +3,25 @@ ghost use Rattle.std.specs.Prelude.{◌≡◌, ◌++◌, ◌+◌, ◌*◌, ◌�
 ghost use Rattle.element_table.specs.Elements.{IsIsotope};
 ghost use Rattle.formula_text.specs.Formulas.{atoms_of};
 ghost use Rattle.formula_text.specs.Masses.{HasItems};
-ghost use Rattle.isotopologue_text.specs.Isotopologues.{isotopes_that_occur, isotope_item, isotope_items, formula_isotopes, counts_text, counts_mass};
-ghost use Rattle.isotopologue_text.specs.Printed.{AreLabels, labelled_text, printed_isotopes, printed_text, printed_mass};
+ghost use Rattle.isotopologue_text.specs.Isotopologues.{isotopes_that_occur, isotope_item, isotope_items};
+ghost use Rattle.isotopologue_text.specs.Isotopologues.{formula_isotopes, counts_mass};
+ghost use Rattle.isotopologue_text.specs.Labels.{AreLabels, label_text};
+ghost use Rattle.isotopologue_text.specs.Printed.{printed_isotopes, printed_text, printed_mass};
+ghost use Rattle.written_items.specs.Items.{item_text};
 
+use crate::counted::push_counts;
 use crate::isotopes::isotopes_of;
+use crate::label::{LABEL_LENGTH, Label};
 use crate::mass::labelled_mass;
 use crate::text::has_plain;
 use element_table::{Isotope, Table};
 use formula_text::{Formula, Item};
 use std::alloc::{AllocError, Global};
 use std::marker::Model;
-use written_items::{push_count, push_item};
+use written_items::push_item;
+
+/// The length of two brackets and the ten digits of a mass number.
+const BRACKETED_NUMBER: usize = 12;
 
 /// The isotopes that the isotopologues of a formula count, with the mass of its labelled atoms: what the text and the
 /// mass of each isotopologue are made of, without a look at the table.
@@ -21,7 +29,7 @@ use written_items::{push_count, push_item};
 pub struct PrintedIsotopes {
     items: Vec<Item>,
     /// The text of each item.
-    labels: Vec<Vec<u8>>,
+    labels: Vec<Label>,
     isotopes: Vec<Isotope>,
     labelled: u64,
     has_plain: bool,
@@ -30,7 +38,8 @@ pub struct PrintedIsotopes {
 impl Model for PrintedIsotopes {
     ghost use Rattle.std.specs.Prelude.{◌≡◌, ◌≤◌, All, length};
     ghost use Rattle.element_table.specs.Elements.{IsIsotope};
-    ghost use Rattle.isotopologue_text.specs.Printed.{AreLabels, Printed};
+    ghost use Rattle.isotopologue_text.specs.Labels.{AreLabels};
+    ghost use Rattle.isotopologue_text.specs.Printed.{Printed};
 
     ghost Value = { Printed };
 
@@ -78,7 +87,7 @@ impl PrintedIsotopes {
             text.push(b'-')?;
             return Ok(());
         }
-        push_counts(text, &self.items, &self.labels, counts)
+        push_counts(text, &self.labels, counts)
     }
 
     /// The mass of an isotopologue in 10^-12 Da, the formula's labelled atoms included.
@@ -91,45 +100,36 @@ impl PrintedIsotopes {
     }
 }
 
-/// Appends isotopes of these texts with their counts.
-fn push_counts(
-    text: &mut Vec<u8>,
-    items: &[Item],
-    labels: &[Vec<u8>],
-    counts: &[u32],
-) -> Result<(), AllocError>
-    requires labels { AreLabels items.now labels.now }
-    requires one_count_each { length counts.now ≡ length items.now }
-    ensures { OnOk result (text.new.items ≡ text.old.items ++ counts_text items.now counts.now) }
-{
-    for place in 0..items.len() {
-        push_counted(text, &labels[place], counts[place])?;
-    }
-    Ok(())
-}
-
-/// Appends an isotope of this text with its count, unless that is 0.
-fn push_counted(text: &mut Vec<u8>, label: &[u8], count: u32) -> Result<(), AllocError>
-    ensures { OnOk result (text.new.items ≡ text.old.items ++ labelled_text label.now count) }
-{
-    if count == 0 {
-        return Ok(());
-    }
-    text.extend_from_slice(label)?;
-    push_count(text, count)
-}
-
 /// The texts of isotopes.
-fn labels_of(alloc: Global, items: &[Item]) -> Result<Vec<Vec<u8>>, AllocError>
+fn labels_of(alloc: Global, items: &[Item]) -> Result<Vec<Label>, AllocError>
     ensures { IfOk result (λ labels. AreLabels items.now labels.items) }
 {
     let mut labels = Vec::new(alloc);
     for item in items {
-        let mut label = Vec::new(alloc);
-        push_item(&mut label, item)?;
+        let label = label_of(alloc, *item)?;
         labels.push(label)?;
     }
     Ok(labels)
+}
+
+/// The label of an isotope.
+fn label_of(alloc: Global, item: Item) -> Result<Label, AllocError>
+    ensures { IfOk result (λ label. label_text label ≡ item_text item) }
+{
+    let mut text = Vec::with_capacity(alloc, item.symbol.text().len() + BRACKETED_NUMBER)?;
+    push_item(&mut text, &item)?;
+    Ok(label_with(&text))
+}
+
+/// The label of this text.
+fn label_with(text: &[u8]) -> Label
+    requires { length text.now ≤ 16 }
+    ensures { label_text result ≡ text.now }
+{
+    let start = LABEL_LENGTH - text.len();
+    let mut bytes = [0; LABEL_LENGTH];
+    bytes[start..].copy_from_slice(text);
+    Label { bytes, start }
 }
 
 /// The sum of count times mass over isotopes.

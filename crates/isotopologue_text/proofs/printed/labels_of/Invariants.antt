@@ -1,5 +1,5 @@
 use Rattle.std.proofs.Common.{take}
-use Rattle.isotopologue_text.specs.Printed.{AreLabels}
+use Rattle.isotopologue_text.specs.Labels.{AreLabels}
 use Rattle.isotopologue_text.proofs.printed.labels_of.Given as goal
 
 -- the texts so far
