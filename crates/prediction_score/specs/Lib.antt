@@ -5,3 +5,4 @@ pub mod Matches
 pub mod Scores
 pub mod PeakOrders
 pub mod Misfits
+pub mod Columns

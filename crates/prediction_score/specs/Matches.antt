@@ -1,7 +1,7 @@
 -- Which peak a predicted mass goes to. Masses and m/z are in 10^-12 Da. A peak is the pair of its m/z and its
 -- intensity, and its place is that in the peak list, from 0 on.
 use Rattle.std.specs.Prelude.{ℕ, ℤ, ◌<◌, ◌≤◌, ◌&&◌, ◌||◌, not, nat_le, Bool, List, length, position, slice_index_or}
-use Rattle.std.specs.Prelude.{Option}
+use Rattle.std.specs.Prelude.{Option, Some, None}
 use Rattle.std.specs.List.{list_all}
 use Rattle.mass_scaling.specs.Tolerances.{Within, distance, within}
 use Rattle.mass_scaling.specs.declared.tolerances.Tolerance.{Tolerance}
@@ -35,3 +35,8 @@ pub record IsPeakOf (peaks : List (ℕ × ℕ)) (divisor : ℕ) (tolerance : Tol
 abbrev pub HasNoPeak : List (ℕ × ℕ) → ℕ → Tolerance → ℤ → Type 0
 HasNoPeak peaks divisor tolerance mass =
     (k : ℕ) → k < length peaks → ¬ Within mass (mz_at peaks k) tolerance divisor
+
+-- the place is that of the peak, or there is none
+abbrev pub Outcome : List (ℕ × ℕ) → ℕ → Tolerance → ℤ → Option ℕ → Type 0
+Outcome peaks divisor tolerance mass None = HasNoPeak peaks divisor tolerance mass
+Outcome peaks divisor tolerance mass (Some place) = IsPeakOf peaks divisor tolerance mass place

@@ -5,11 +5,16 @@
 //! have no such peak and of how far the totals at the peaks are from the peaks' shares in the intensity. Smaller is
 //! better.
 //!
+//! The masses of the members are one column. Each peak that can have a member is held against the whole column first,
+//! by the number of masses in its window, and is passed over where that is 0.
+//!
 //! A [`PeakOrder`] is seen by contracts as the list of its peaks. The crate stands on `mass_scaling` for tolerances
-//! and on `peak_text` for peaks. The layer above makes one order of its peaks and asks it for the
-//! [`PeakOrder::score`] of each candidate; [`score`] makes an order for one prediction.
+//! and windows, on `lane_scan` for the numbers of masses in them, and on `peak_text` for peaks. The layer above makes
+//! one order of its peaks and asks it for the [`PeakOrder::score`] of each candidate; [`score`] makes an order for one
+//! prediction.
 #![tactic(auto)]
 
+mod columns;
 mod order;
 mod predicted;
 mod scores;
