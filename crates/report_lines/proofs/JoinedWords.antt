@@ -1,5 +1,5 @@
 -- Words joined by a space, one more at a time, and what is left of a text where one finds no room.
-use Rattle.std.proofs.Common.{◌≡◌, ℕ, ◌+◌, ◌<◌, ◌≤◌, zero, suc, List, [], ◌∷◌, ◌++◌, length, take, drop, map, get_or}
+use Rattle.std.proofs.Common.{◌≡◌, ℕ, ◌+◌, ◌<◌, zero, suc, List, [], ◌∷◌, ◌++◌, length, take, drop, map, get_or}
 use Rattle.std.proofs.Common.{refl, sym, ap, ◌∙◌, arith}
 use Rattle.std.proofs.lemmas.List.{append_assoc, append-nil, take_more, map-append, take-append-drop}
 use Rattle.std.proofs.lemmas.Grind.{flat_map-append}
@@ -76,3 +76,17 @@ line_more line_of start before after ys place y within is so_far now =
     let one : flat_map line_of (y ∷ []) ≡ line_of y = append-nil (line_of y) in
     now ∙ ap (λ t. t ++ line_of y) so_far ∙ append_assoc start (flat_map line_of (take place ys)) (line_of y)
     ∙ rw (more, flat_map-append line_of (take place ys) (y ∷ []), one) refl
+
+-- what is left where more was appended
+pub kept_more : (text more before after : List ℕ) → take (length text) before ≡ text → after ≡ before ++ more
+    → take (length text) after ≡ text
+kept_more text more before after kept is =
+    let rest = drop (length text) before in
+    let parts : before ≡ text ++ rest = sym (take-append-drop (length text) before) ∙ ap (λ t. t ++ rest) kept in
+    front_kept text (rest ++ more) after (is ∙ ap (λ t. t ++ more) parts ∙ append_assoc text rest more)
+
+-- a text appended behind a front
+pub appended_behind : {A E : Type 0} (answer : Result A E) (front before other after : List ℕ) → before ≡ front
+    → after ≡ (if is_ok answer then before ++ other else before) → OnOk answer (after ≡ front ++ other)
+appended_behind (Ok x) front before other after so_far is = is ∙ ap (λ t. t ++ other) so_far
+appended_behind (Err e) front before other after so_far is = tt

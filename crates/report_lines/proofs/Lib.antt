@@ -1,3 +1,4 @@
 pub mod MassTexts
 pub mod JoinedWords
 pub mod WordsOfLines
+pub mod FormulaTexts

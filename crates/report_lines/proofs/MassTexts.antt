@@ -3,7 +3,7 @@ use Rattle.std.proofs.Common.{◌≡◌, ℕ, ◌+◌, ◌*◌, ◌/◌, ◌%◌
 use Rattle.std.proofs.Common.{set, refl, sym, ap, ◌∙◌, arith}
 use Rattle.std.proofs.Math.Nat.{pow-suc, div-div-eq-div-mul, mul_comm}
 use Rattle.std.proofs.Math.Arith.{mod-mul}
-use Rattle.std.proofs.lemmas.List.{append-nil, drop_all, drop-set, drop-drop}
+use Rattle.std.proofs.lemmas.List.{append_assoc, drop-set, drop-drop}
 use Rattle.std.proofs.lemmas.Fmt.{decimal_step, decimal_digit}
 use Rattle.std.specs.Fmt.{decimal}
 use Rattle.fixed_decimal.specs.DecimalTexts.{decimal_text, last_digits}
@@ -37,20 +37,20 @@ decimal-behind_one (suc k) n few =
     step ∙ rw (front, last, decimal-behind_one k (n / 10) (omega arith), last_digits-front k n) refl
 
 -- the decimals are written behind a 1, which gives its place to the point, and the whole part before it
-pub mass_written : (mass point start : ℕ) (bytes decimals text : List ℕ) → length bytes ≡ 21 → length decimals ≡ 21
-    → point + length (decimal (10 ^ 12 + mass % 10 ^ 12)) ≡ 21
-    → drop point decimals ≡ decimal (10 ^ 12 + mass % 10 ^ 12) ++ drop 21 bytes
+pub mass_written : (mass point start end : ℕ) (bytes decimals text : List ℕ) → length decimals ≡ length bytes
+    → end ≤ length bytes → point + length (decimal (10 ^ 12 + mass % 10 ^ 12)) ≡ end
+    → drop point decimals ≡ decimal (10 ^ 12 + mass % 10 ^ 12) ++ drop end bytes
     → drop start text ≡ decimal (mass / 10 ^ 12) ++ drop point (set decimals point 46)
-    → drop start text ≡ mass_text mass
+    → drop start text ≡ mass_text mass ++ drop end bytes
 unfolding decimal_text
-mass_written mass point start bytes decimals text length0 length1 at written all =
+mass_written mass point start end bytes decimals text same within at written all =
     let behind : decimal (10 ^ 12 + mass % 10 ^ 12) ≡ 49 ∷ last_digits 12 mass =
     decimal-behind_one 12 mass (omega arith) in
-    let none : drop 21 bytes ≡ [] = drop_all 21 bytes (omega arith) in
-    let within : point < length decimals = omega (arith, ap length behind) in
-    let digits : drop point decimals ≡ 49 ∷ last_digits 12 mass = written
-    ∙ rw (behind, none) (append-nil (49 ∷ last_digits 12 mass)) in
-    let rest : drop (point + 1) decimals ≡ last_digits 12 mass = sym (drop-drop 1 point decimals)
+    let inside : point < length decimals = omega (arith, ap length behind) in
+    let digits : drop point decimals ≡ 49 ∷ (last_digits 12 mass ++ drop end bytes) = written
+    ∙ ap (λ (l : List ℕ). l ++ drop end bytes) behind in
+    let rest : drop (point + 1) decimals ≡ last_digits 12 mass ++ drop end bytes = sym (drop-drop 1 point decimals)
     ∙ ap (λ (l : List ℕ). drop 1 l) digits in
     all ∙ ap (λ (l : List ℕ). decimal (mass / 10 ^ 12) ++ l)
-    (drop-set decimals point 46 within ∙ ap (λ (l : List ℕ). 46 ∷ l) rest)
+    (drop-set decimals point 46 inside ∙ ap (λ (l : List ℕ). 46 ∷ l) rest)
+    ∙ sym (append_assoc (decimal (mass / 10 ^ 12)) (46 ∷ last_digits 12 mass) (drop end bytes))

@@ -1,6 +1,7 @@
 -- A line whose words are named in another way.
-use Rattle.std.proofs.Common.{◌≡◌, ℕ, List, [], ◌∷◌, ◌++◌, codes, refl, sym, ap, ◌∙◌, arith}
-use Rattle.std.specs.Prelude.{ℤ, pos, Result, Ok, Err, OnOk}
+use Rattle.std.proofs.Common.{◌≡◌, ℕ, List, [], ◌∷◌, ◌++◌, codes, ap, ◌∙◌}
+use Rattle.std.proofs.lemmas.List.{append_assoc}
+use Rattle.std.specs.Prelude.{ℤ, Result, Ok, Err, OnOk}
 use Rattle.std.specs.Fmt.{decimal, signed_decimal}
 use Rattle.written_items.specs.declared.item.Item.{Item}
 use Rattle.formula_text.specs.PrintedText.{printed_text}
@@ -22,18 +23,24 @@ formula_line-words (Ok x) before after formula mass ion mz divisor word differen
     signed_decimal d ∷ [])) difference_is
 formula_line-words (Err e) before after formula mass ion mz divisor word difference appended ion_is difference_is = tt
 
-pub isotopologue_line-words : {A E : Type 0} (answer : Result A E) (before after : List ℕ) (shift : ℤ)
-    (member : MemberEntry) (text word : List ℕ) (lo hi : ℕ)
-    → OnOk answer (after ≡ before ++ line (codes "isotopologue" ∷ text ∷ word ∷ decimal lo ∷ decimal hi ∷ []))
-    → text ≡ member.text → word ≡ ion_mass_text (shifted_mass shift member) → lo ≡ member.lo → hi ≡ member.hi
-    → OnOk answer (after ≡ before ++ isotopologue_line shift member)
-isotopologue_line-words (Ok x) before after shift member text word lo hi appended text_is mass_is lo_is hi_is =
-    appended
-    ∙ ap (λ (t : List ℕ). before ++ line (codes "isotopologue" ∷ t ∷ word ∷ decimal lo ∷ decimal hi ∷ [])) text_is
-    ∙ ap (λ (t : List ℕ). before ++ line (codes "isotopologue" ∷ member.text ∷ t ∷ decimal lo ∷ decimal hi ∷ []))
-    mass_is
-    ∙ ap (λ (n : ℕ). before ++ line (codes "isotopologue" ∷ member.text ∷ ion_mass_text (shifted_mass shift member) ∷
-    decimal n ∷ decimal hi ∷ [])) lo_is
-    ∙ ap (λ (n : ℕ). before ++ line (codes "isotopologue" ∷ member.text ∷ ion_mass_text (shifted_mass shift member) ∷
-    decimal member.lo ∷ decimal n ∷ [])) hi_is
-isotopologue_line-words (Err e) before after shift member text word lo hi appended text_is mass_is lo_is hi_is = tt
+-- a line whose last words were written with a space before each
+words_joined : (start word text a b c : List ℕ)
+    → start ++ (word ++ 32 ∷ []) ++ text ++ (32 ∷ a ++ 32 ∷ b ++ 32 ∷ c ++ 10 ∷ [])
+    ≡ start ++ line (word ∷ text ∷ a ∷ b ∷ c ∷ [])
+words_joined start word text a b c = simp append_assoc
+
+-- the line of an isotopologue whose numbers were written so, appended and not cut
+pub isotopologue_line-numbers : {A E : Type 0} (pushed answer : Result A E) (start before after : List ℕ) (shift : ℤ)
+    (member : MemberEntry) (numbers : List ℕ) (mass : ℤ)
+    → answer ≡ pushed → OnOk pushed (before ≡ start ++ codes "isotopologue " ++ member.text ++ numbers)
+    → OnOk answer (after ≡ before)
+    → numbers ≡ 32 ∷ ion_mass_text mass ++ 32 ∷ decimal member.lo ++ 32 ∷ decimal member.hi ++ 10 ∷ []
+    → mass ≡ shifted_mass shift member
+    → OnOk answer (after ≡ start ++ isotopologue_line shift member)
+isotopologue_line-numbers (Ok x) (Ok y) start before after shift member numbers mass same appended kept is mass_is =
+    kept ∙ appended ∙ ap (λ (t : List ℕ). start ++ codes "isotopologue " ++ member.text ++ t) is
+    ∙ words_joined start (codes "isotopologue") member.text (ion_mass_text mass) (decimal member.lo) (decimal member.hi)
+    ∙ ap (λ (m : ℤ). start ++ line (codes "isotopologue" ∷ member.text ∷ ion_mass_text m ∷ decimal member.lo
+    ∷ decimal member.hi ∷ [])) mass_is
+isotopologue_line-numbers (Err e) (Ok y) start before after shift member numbers mass same appended kept is mass_is = cc
+isotopologue_line-numbers pushed (Err e) start before after shift member numbers mass same appended kept is mass_is = tt

@@ -1,12 +1,16 @@
 //! The lines of the report of formulas.
-ghost use Rattle.std.specs.Prelude.{◌≡◌, ◌++◌, IfOk, OnOk, OnErr, IsTrue, is_some};
-ghost use Rattle.report_lines.specs.ReportLines.{IsPrintedMass, mass_difference};
+ghost use Rattle.std.specs.Prelude.{◌≡◌, [], ◌∷◌, ◌++◌, length, take, IfOk, OnOk, OnErr, IsTrue, is_some, codes};
+ghost use Rattle.std.specs.Fmt.{signed_decimal};
+ghost use Rattle.formula_text.specs.PrintedText.{printed_text};
+ghost use Rattle.report_lines.specs.ReportLines.{IsPrintedMass, ion_mass_text, line, mass_difference, mass_text};
 ghost use Rattle.report_lines.specs.ReportLines.{decompose_head, peak_line, formula_line, decompose_line};
 ghost use Rattle.formula_text.specs.Masses.{HasItems};
 ghost use Rattle.adducts.specs.Ions.{ion_of};
 
-use crate::line::push_line;
+use crate::formula::push_formula;
+use crate::line::{cut_unless_pushed, push_line};
 use crate::word::{Word, ion_mass_word};
+use crate::written::{NUMBERS_ROOM, write_masses};
 use adducts::{Adduct, ion_mass};
 use element_table::Table;
 use formula_text::Formula;
@@ -100,6 +104,31 @@ pub fn push_items_line(
         report.new.items ≡ report.old.items ++ formula_line formula.now mass ion_mass mz divisor) }
     ensures refused { OnErr result (report.new.items ≡ report.old.items) }
 {
+    let difference = mass_difference(ion_mass, mz, divisor);
+    if difference.unsigned_abs() > u128::from(u64::MAX) {
+        return push_far_line(report, formula, mass, ion_mass, difference);
+    }
+    let mut numbers = [0; NUMBERS_ROOM];
+    let place = write_masses(mass, ion_mass, difference, &mut numbers);
+    let start = report.len();
+    let pushed = push_formula_with(report, formula, &numbers[place..]);
+    cut_unless_pushed(report, start, pushed)
+}
+
+/// Appends the line of a formula whose difference is any.
+fn push_far_line(
+    report: &mut Vec<u8>,
+    formula: &[(Item, u32)],
+    mass: u64,
+    ion_mass: i128,
+    difference: i128,
+) -> Result<(), AllocError>
+    requires { IsPrintedMass ion_mass }
+    ensures line { OnOk result (report.new.items ≡ report.old.items
+        ++ line (codes "formula" ∷ printed_text formula.now ∷ mass_text mass ∷ ion_mass_text ion_mass
+        ∷ signed_decimal difference ∷ [])) }
+    ensures refused { OnErr result (report.new.items ≡ report.old.items) }
+{
     push_line(
         report,
         &[
@@ -107,9 +136,24 @@ pub fn push_items_line(
             Word::Formula(formula),
             Word::Mass(mass),
             ion_mass_word(ion_mass),
-            Word::Difference(mass_difference(ion_mass, mz, divisor)),
+            Word::Difference(difference),
         ],
     )
+}
+
+/// Appends the line of a formula with what stands behind its text, or as much as there is room for.
+fn push_formula_with(
+    report: &mut Vec<u8>,
+    formula: &[(Item, u32)],
+    numbers: &[u8],
+) -> Result<(), AllocError>
+    ensures line { OnOk result (
+        report.new.items ≡ report.old.items ++ codes "formula " ++ printed_text formula.now ++ numbers.now) }
+    ensures kept { OnErr result (take (length report.old.items) report.new.items ≡ report.old.items) }
+{
+    report.extend_from_slice(b"formula ")?;
+    push_formula(report, formula)?;
+    report.extend_from_slice(numbers)
 }
 
 /// The line of a formula for a peak of this m/z: its text and its mass, the mass of its ion, and how far that is above

@@ -1,11 +1,12 @@
 //! The lines of the report of a cover.
-ghost use Rattle.std.specs.Prelude.{◌≡◌, ◌++◌, length, take, All, IfOk, OnOk, OnErr};
+ghost use Rattle.std.specs.Prelude.{◌≡◌, ◌++◌, length, take, All, IfOk, OnOk, OnErr, codes};
 ghost use Rattle.std.specs.List.{flat_map};
 ghost use Rattle.report_lines.specs.ReportLines.{IsPrintedWith, cover_members, member_of_words};
 ghost use Rattle.report_lines.specs.ReportLines.{envelope_head, head_lines, isotopologue_line, envelope_text};
 
 use crate::line::{cut_unless_pushed, push_line};
-use crate::word::{Word, ion_mass_word};
+use crate::word::Word;
+use crate::written::{NUMBERS_ROOM, write_enclosed};
 use cover_certificate::{Cover, CoverMember, NumberedCover};
 use formula_text::Formula;
 use std::alloc::{AllocError, Global};
@@ -127,17 +128,22 @@ pub fn push_isotopologue_words(
         report.new.items ≡ report.old.items ++ isotopologue_line shift (member_of_words text.now mass lo hi)) }
     ensures refused { OnErr result (report.new.items ≡ report.old.items) }
 {
-    let mass = i128::from(mass) + shift;
-    push_line(
-        report,
-        &[
-            Word::Text(b"isotopologue"),
-            Word::Text(text),
-            ion_mass_word(mass),
-            Word::Number(lo),
-            Word::Number(hi),
-        ],
-    )
+    let mut numbers = [0; NUMBERS_ROOM];
+    let place = write_enclosed(i128::from(mass) + shift, lo, hi, &mut numbers);
+    let start = report.len();
+    let pushed = push_text_with(report, text, &numbers[place..]);
+    cut_unless_pushed(report, start, pushed)
+}
+
+/// Appends the line of an isotopologue of this text with what stands behind it, or as much as there is room for.
+fn push_text_with(report: &mut Vec<u8>, text: &[u8], numbers: &[u8]) -> Result<(), AllocError>
+    ensures line { OnOk result (
+        report.new.items ≡ report.old.items ++ codes "isotopologue " ++ text.now ++ numbers.now) }
+    ensures kept { OnErr result (take (length report.old.items) report.new.items ≡ report.old.items) }
+{
+    report.extend_from_slice(b"isotopologue ")?;
+    report.extend_from_slice(text)?;
+    report.extend_from_slice(numbers)
 }
 
 /// The report of a cover, with the shift added to each mass: its five lines and a line for each member of the cover.

@@ -13,8 +13,10 @@
 mod check;
 mod decompose;
 mod envelope;
+mod formula;
 mod line;
 mod word;
+mod written;
 
 pub use check::push_accepted_line;
 pub use decompose::{

@@ -5,9 +5,11 @@ ghost use Rattle.formula_text.specs.PrintedText.{printed_text};
 ghost use Rattle.report_lines.specs.ReportLines.{IsPrintedMass, ion_mass_text, mass_text};
 ghost use Rattle.report_lines.specs.Words.{word_text};
 
+use crate::formula::push_formula;
+use crate::written::write_mass;
 use itoa::{Buffer, write_digits};
 use std::alloc::AllocError;
-use written_items::{Item, push_count, push_item};
+use written_items::Item;
 
 /// A word of a line.
 #[derive(Clone, Copy)]
@@ -26,11 +28,11 @@ pub enum Word<'a> {
     Difference(i128),
 }
 
-/// The units of 10^-12 Da in 1 Da.
-const DALTON: u64 = 1_000_000_000_000;
-
 /// The length of the text of the greatest mass: 8 digits, a point and 12 decimals.
 const MAX_MASS_LENGTH: usize = 21;
+
+/// The length of the text of the greatest whole number.
+const MAX_NUMBER_LENGTH: usize = 20;
 
 /// The word of a mass from which that of electrons was taken off.
 pub fn ion_mass_word<'a>(mass: i128) -> Word<'a>
@@ -54,8 +56,9 @@ pub fn push_word(text: &mut Vec<u8>, word: &Word<'_>) -> Result<(), AllocError>
         Word::Text(bytes) => text.extend_from_slice(bytes),
         Word::Formula(items) => push_formula(text, items),
         Word::Number(number) => {
-            let mut digits = Buffer::new();
-            text.extend_from_slice(digits.format(number).as_bytes())
+            let mut digits = [0; MAX_NUMBER_LENGTH];
+            let start = write_digits(number, &mut digits, MAX_NUMBER_LENGTH);
+            text.extend_from_slice(&digits[start..])
         }
         Word::Mass(mass) => push_mass(text, mass),
         Word::NegativeMass(mass) => {
@@ -69,27 +72,12 @@ pub fn push_word(text: &mut Vec<u8>, word: &Word<'_>) -> Result<(), AllocError>
     }
 }
 
-/// Appends the printed text of a formula. Without room for all of it a part may be appended.
-fn push_formula(text: &mut Vec<u8>, items: &[(Item, u32)]) -> Result<(), AllocError>
-    ensures text { OnOk result (text.new.items ≡ text.old.items ++ printed_text items.now) }
-    ensures kept { OnErr result (take (length text.old.items) text.new.items ≡ text.old.items) }
-{
-    for (item, count) in items {
-        push_item(text, item)?;
-        push_count(text, *count)?;
-    }
-    Ok(())
-}
-
 /// Appends a mass with 12 decimals. Without room for it the text stays as it was.
 fn push_mass(text: &mut Vec<u8>, mass: u64) -> Result<(), AllocError>
     ensures text { OnOk result (text.new.items ≡ text.old.items ++ mass_text mass) }
     ensures refused { OnErr result (text.new.items ≡ text.old.items) }
 {
     let mut bytes = [0; MAX_MASS_LENGTH];
-    // The decimals with their leading zeros stand behind a 1, which gives its place to the point.
-    let point = write_digits(DALTON + mass % DALTON, &mut bytes, MAX_MASS_LENGTH);
-    bytes[point] = b'.';
-    let start = write_digits(mass / DALTON, &mut bytes, point);
+    let start = write_mass(mass, &mut bytes, MAX_MASS_LENGTH);
     text.extend_from_slice(&bytes[start..])
 }

@@ -1,4 +1,4 @@
-use Rattle.std.proofs.Common.{◌≡◌, length, take, sym, rules}
+use Rattle.std.proofs.Common.{◌≡◌, length, take, rules}
 use Rattle.report_lines.specs.Words.{word_text}
 use Rattle.report_lines.proofs.JoinedWords.{front_of_front, word_more}
 use Rattle.report_lines.proofs.line.push_words.Goals as goal

@@ -1,0 +1,28 @@
+use Rattle.std.proofs.Common.{◌<◌, ◌^◌, arith}
+use Rattle.std.proofs.lemmas.Int.{ints}
+use Rattle.std.proofs.lemmas.Fmt.{length-decimal-le}
+use Rattle.report_lines.proofs.written.write_difference.Goals as goal
+
+pub write_digits-start-requires : goal.write_digits-start-requires
+write_digits-start-requires c =
+    let few : c.unsigned_abs.result < 2 ^ 64 = omega (arith, ints) in
+    let short = length-decimal-le 20 c.unsigned_abs.result (omega arith) (omega arith) (omega arith) in
+    (omega arith, omega arith)
+
+pub write_byte-requires-clause-room : goal.write_byte-requires-clause-room
+write_byte-requires-clause-room c =
+    let few : c.unsigned_abs.result < 2 ^ 64 = omega (arith, ints) in
+    let short = length-decimal-le 20 c.unsigned_abs.result (omega arith) (omega arith) (omega arith) in
+    omega arith
+
+pub returns-then-difference-lt0-clause-start : goal.returns-then-difference-lt0-clause-start
+returns-then-difference-lt0-clause-start c =
+    let few : c.unsigned_abs.result < 2 ^ 64 = omega (arith, ints) in
+    let short = length-decimal-le 20 c.unsigned_abs.result (omega arith) (omega arith) (omega arith) in
+    omega arith
+
+pub returns-clause-start : goal.returns-clause-start
+returns-clause-start c =
+    let few : c.unsigned_abs.result < 2 ^ 64 = omega (arith, ints) in
+    let short = length-decimal-le 20 c.unsigned_abs.result (omega arith) (omega arith) (omega arith) in
+    omega arith
