@@ -1,10 +1,18 @@
 -- Count lists of equal length that are kept end to end.
 use Rattle.std.proofs.Common.{◌≡◌, ℕ, zero, suc, ◌+◌, ◌*◌, ◌<◌, ◌≤◌, List, [], ◌∷◌, ◌++◌, length, take, drop, get_or, refl, sym, ap, ◌∙◌, subst, arith}
 use Rattle.std.specs.Prelude.{Option, Some, None, IfSome, IsSomeAnd}
-use Rattle.std.proofs.lemmas.List.{append_assoc, length-append, length-drop, take-append-le, drop-append-le, drop-drop, take_all}
+use Rattle.std.proofs.lemmas.List.{append_assoc, length-append, length-drop, length-take-le, take-append-le, drop-append-le, drop-drop, take_all}
 use Rattle.std.proofs.lemmas.Nat.{mul-le}
 use Rattle.std.proofs.Math.Nat.{suc-mul}
+use Rattle.std.specs.Prelude.{All}
+use Rattle.decompose.specs.CountLists.{IsInBox, IsLimit}
+use Rattle.decompose.specs.declared.limits.Limit.{Limit}
+use Rattle.candidates.specs.declared.count_lists.TheConstants.{MAX_KEPT_COUNT}
+use Rattle.candidates.specs.Grounds.{GroundValue, IsGround}
 use Rattle.candidates.specs.KeptLists.{lists_in}
+use Rattle.candidates.specs.PeakFormulas.{limits_of}
+use Rattle.candidates.specs.Standings.{IsToken}
+use Rattle.candidates.proofs.AlphabetMasses.{are_limits}
 
 pub length-lists_in : (n w : ℕ) (xs : List ℕ) → length (lists_in n w xs) ≡ n
 length-lists_in zero w xs = refl
@@ -76,3 +84,38 @@ pub number-passed : (left next : List (List ℕ)) (given : Option (List ℕ)) �
 number-passed left next None is = absurd is
 number-passed left next (Some counts) is =
     let whole : length left ≡ length (counts ∷ next) = ap (λ (l : List (List ℕ)). length l) is in omega (arith, whole)
+
+-- each of the lists has this length
+pub lists_in-length : (n w k : ℕ) (xs d : List ℕ) → length xs ≡ n * w → k < n → length (get_or (lists_in n w xs) k d) ≡ w
+lists_in-length zero w k xs d size inside = absurd (omega arith)
+lists_in-length (suc n) w zero xs d size inside =
+    let all = suc-mul n w in
+    length-take-le w xs (omega (arith, size, all))
+lists_in-length (suc n) w (suc k) xs d size inside =
+    let all = suc-mul n w in
+    let rest : length (drop w xs) ≡ n * w = omega (arith, length-drop w xs, size, all) in
+    lists_in-length n w k (drop w xs) d rest (omega arith)
+
+-- ---- counts of a box are few enough to be kept
+
+few_at : (limits : List Limit) (counts : List ℕ) (k d : ℕ) → All IsLimit limits → IsInBox limits counts →
+    k < length counts → get_or counts k d ≤ MAX_KEPT_COUNT
+few_at [] [] k d ok box h = absurd (omega arith)
+few_at [] (c ∷ cs) k d ok box h = absurd box
+few_at (l ∷ ls) [] k d ok box h = absurd box
+few_at (l ∷ ls) (c ∷ cs) zero d ok box h = omega (arith, box.1, (ok 0 l (omega arith)).bounded)
+few_at (l ∷ ls) (c ∷ cs) (suc k) d ok box h =
+    few_at ls cs k d (λ j e w. ok (suc j) e (omega arith)) box.2 (omega arith)
+
+pub few_given : (premises : GroundValue) (given : Option (List ℕ)) → IsGround premises →
+    IfSome given (IsToken premises) → IfSome given (All (λ count. count ≤ MAX_KEPT_COUNT))
+few_given premises None ground token = tt
+few_given premises (Some counts) ground token =
+    λ k d h. few_at (limits_of premises.alphabet) counts k d (are_limits premises.alphabet ground.is_alphabet)
+    token.in_box h
+
+pub few_last : (given : Option (List ℕ)) (last : List ℕ) (next all : List (List ℕ)) →
+    IsSomeAnd given (λ counts. all ≡ counts ∷ next) → IfSome given (λ counts. last ≡ counts) →
+    IfSome given (All (λ count. count ≤ MAX_KEPT_COUNT)) → All (λ count. count ≤ MAX_KEPT_COUNT) last
+few_last None last next all some is few = absurd some
+few_last (Some counts) last next all some is few = rw is few

@@ -1,6 +1,6 @@
 //! The enumeration of the candidates of a peak.
 ghost use Rattle.std.specs.Prelude.{◌≡◌, ◌≤◌, ◌<◌, ◌+◌, ◌↔◌, ℕ, List, if◌then◌else◌, [], ◌∷◌, ◌++◌, nat_lt};
-ghost use Rattle.std.specs.Prelude.{IfOk, IfSome, IsSomeAnd, OnOk, OnErr, IsErrOf, IsTrue, not, Some, None, length, map, option_map};
+ghost use Rattle.std.specs.Prelude.{All, IfOk, IfSome, IsSomeAnd, OnOk, OnErr, IsErrOf, IsTrue, not, Some, None, length, map, option_map};
 ghost use Rattle.std.specs.Bool.{OnTrue, OnFalse};
 ghost use Rattle.mass_scaling.specs.declared.limits.TheConstants.{MAX_MZ};
 ghost use Rattle.mass_scaling.specs.Windows.{IsWindow};
@@ -15,10 +15,11 @@ ghost use Rattle.formula_text.specs.Formulas.{IsFormula, count_in};
 ghost use Rattle.candidates.specs.Searches.{Covers, Admits};
 ghost use Rattle.std.specs.List.{list_any};
 ghost use Rattle.written_items.specs.Items.{item_eq};
+ghost use Rattle.candidates.specs.declared.count_lists.TheConstants.{MAX_KEPT_COUNT};
 ghost use Rattle.candidates.specs.Tokens.{IsInAlphabetBox, has_only, fits};
 ghost use Rattle.candidates.specs.Standings.{IsSearched, IsToken};
 
-use crate::count_lists::CountLists;
+use crate::count_lists::{CountLists, push_counts};
 use crate::grounds::Ground;
 use crate::line::push_line;
 use crate::search::{Search, counts_of, is_sure};
@@ -273,7 +274,7 @@ impl<'t> Candidates<'t> {
                     counts,
                 }));
             }
-            counts.extend_from_slice(self.counts_given())?;
+            push_counts(&mut counts, self.counts_given())?;
         }
         if self.advance(steps) {
             return Ok(None);
@@ -288,6 +289,7 @@ impl<'t> Candidates<'t> {
     /// The counts of the candidate given last, where one was given.
     fn counts_given(&self) -> &[u32]
         ensures given { IfSome self.now.given (λ counts. result.now ≡ counts) }
+        ensures few { IfSome self.now.given (All (λ count. count ≤ MAX_KEPT_COUNT)) }
         ensures length { length result.now ≡ length self.now.premises.alphabet }
     {
         self.last.counts()

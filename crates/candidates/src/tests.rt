@@ -216,8 +216,11 @@ fn keep_two<L: Ledger>(
     let mut candidates = Candidates::start(alloc, premises, mz)?;
     let kept = candidates.keep(2, &mut steps)?.ok_or("two lists")?;
     assert_eq!(rt; kept.len(), 2);
+    assert_eq!(rt; kept.width(), 3);
     for place in 0..kept.len() {
-        assert_eq!(rt; kept.list(place), [0, 0, place as u32 + 1].as_slice());
+        let mut counts = vec![in alloc; 0; kept.width()]?;
+        kept.write_list(place, &mut counts);
+        assert_eq!(rt; counts.as_slice(), [0, 0, place as u32 + 1].as_slice());
     }
     Ok(())
 }

@@ -2,7 +2,7 @@ use Rattle.std.proofs.Common.{◌≡◌, ◌+◌, ◌*◌, ℕ, List, [], ◌++�
 use Rattle.std.proofs.lemmas.List.{length-append}
 use Rattle.candidates.specs.Enumeration.{counts_left}
 use Rattle.candidates.specs.KeptLists.{lists_in}
-use Rattle.candidates.proofs.KeptCounts.{keeps-one, number-kept, number-passed, passes-one}
+use Rattle.candidates.proofs.KeptCounts.{few_last, keeps-one, number-kept, number-passed, passes-one}
 use Rattle.candidates.proofs.candidates.Candidates.keep.Goals as goal
 
 pub loop-many-preserved : goal.loop-many-preserved
@@ -15,7 +15,7 @@ loop-many-preserved g c =
     let same = c.advance.ensures.premises ∙ c.loop-many.invariant.premises in
     let one : length last ≡ width =
     c.counts_given.ensures.length ∙ ap (λ (p : _). length p.alphabet) same ∙ sym c.loop-many.invariant.width in
-    let items : c.extend_from_slice.new.self.items ≡ kept ++ last = c.in_ok-extend_from_slice.ensures.items in
+    let items : c.push_counts.new.kept.items ≡ kept ++ last = c.in_ok-push_counts.ensures in
     let size : (c.loop-many.many + 1) * width ≡ c.loop-many.many * width + width = omega arith in
     record {
       premises = same;
@@ -29,6 +29,12 @@ loop-many-preserved g c =
           ∙ ap (λ l. lists_in (c.loop-many.many + 1) width l ++ counts_left new) (sym items);
     }
 
+pub push_counts-requires : goal.push_counts-requires
+push_counts-requires g c =
+    few_last c.advance.new.self.given c.counts_given.result.now (counts_left c.advance.new.self)
+    (counts_left c.loop-many.self) c.if-not-advance.ensures.next c.counts_given.ensures.given
+    c.counts_given.ensures.few
+
 pub returns-then-not-advance-clause-none : goal.returns-then-not-advance-clause-none
 returns-then-not-advance-clause-none g c =
     let left : counts_left c.loop-many.self ≡ [] = c.if-not-advance.ensures.end.0 refl in
@@ -38,8 +44,8 @@ returns-then-not-advance-clause-none g c =
     let none = ap (λ (l : List (List ℕ)). length l) left in
     (λ e. absurd (cc), λ more. absurd (omega (arith, all, none, more, c.loop-many-test.true)))
 
-pub returns-in_err-extend_from_slice-clause-goes_on : goal.returns-in_err-extend_from_slice-clause-goes_on
-returns-in_err-extend_from_slice-clause-goes_on g c =
+pub returns-in_err-push_counts-clause-goes_on : goal.returns-in_err-push_counts-clause-goes_on
+returns-in_err-push_counts-clause-goes_on g c =
     let passed =
     passes-one (counts_left c.args.self.now) _ (counts_left c.loop-many.self) (counts_left c.advance.new.self)
     c.advance.new.self.given c.loop-many.invariant.parts c.if-not-advance.ensures.next in
