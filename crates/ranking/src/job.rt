@@ -1,31 +1,33 @@
 //! The job that ranks the candidates of a peak.
 ghost use Rattle.std.specs.Prelude.{◌≡◌, ◌≤◌, ◌<◌, ◌*◌, ◌^◌, IfOk, length};
 ghost use Rattle.ranking.specs.Rankings.{is_memory, ranked_list, stop_of};
-ghost use Rattle.ranking.specs.RankJobs.{HasIon, begun, list_left, stop_left};
-ghost use Rattle.ranking.specs.Ratings.{RatedWithin, peaks_of};
+ghost use Rattle.ranking.specs.RankJobs.{begun, list_left, stop_left};
+ghost use Rattle.ranking.specs.Ratings.{peaks_of};
 ghost use Rattle.ranking.specs.JobStops.{stop-not_free};
 
 use crate::fault::RankFault;
 use crate::limits::MAX_CANDIDATES;
 use crate::ranked::Ranked;
-use crate::task::{Order, Rating, Task};
+use crate::task::{Order, Task};
 use crate::waiting::Waiting;
 use candidates::{Candidates, Ground};
 use formula_text::Formula;
 use job_turns::Job;
 use peak_text::Peaks;
 use prediction_score::PeakOrder;
+use reaching_layer::GrownLists;
 use std::alloc::{AllocError, Global};
 use std::marker::Model;
 
-/// Ranks the candidates of a peak one by one, in candidate order. Contracts see its task, the candidates that are left
-/// and how many more of them it may give.
+/// Ranks the candidates of a peak one by one, in candidate order. Lists of elements are kept from one candidate to the
+/// next. Contracts see the job's task, the candidates that are left and how many more of them it may give.
 #[derive(Drop)]
 pub struct RankJob<'t> {
     alloc: Global,
     task: Task<'t>,
     waiting: Waiting<'t>,
     room: u64,
+    kept: GrownLists,
 }
 
 impl<'t> Model for RankJob<'t> {
@@ -137,20 +139,8 @@ impl<'t> RankJob<'t> {
             task,
             waiting,
             room: MAX_CANDIDATES,
+            kept: GrownLists::new(alloc),
         })
-    }
-
-    /// The rating of a candidate, which may be one too many.
-    fn rated(&self, formula: &Formula) -> Result<Rating, RankFault>
-        requires { HasIon self.now.task formula.now }
-        ensures { RatedWithin self.now.task self.now.room formula.now result }
-    {
-        if self.room == 0 {
-            return Err(RankFault::TooMany {
-                peak: self.task.number(),
-            });
-        }
-        self.task.rated(self.alloc, formula)
     }
 }
 
@@ -180,7 +170,10 @@ impl<'t> Job for RankJob<'t> {
         let Some(formula) = self.waiting.take()? else {
             return Ok(None);
         };
-        match self.rated(&formula) {
+        let rated = self
+            .task
+            .rated_within(self.alloc, self.room, &formula, &mut self.kept);
+        match rated {
             Ok(rating) => {
                 self.room -= 1;
                 Ok(Some(Ranked {

@@ -3,11 +3,11 @@
 use crate::electrons::electrons_of;
 use element_table::Table;
 use formula_text::Formula;
-use isotopologue_text::{PrintedIsotopes, elements_of};
+use isotopologue_text::{IsotopeMasses, elements_of};
 use mass_scaling::Tolerance;
 use peak_text::Peaks;
 use prediction_score::Predicted;
-use reaching_layer::{CoverFault, ReachingLayer, reaching_layer};
+use reaching_layer::{CoverFault, GrownLists, ReachingLayer, reaching_layer_with};
 use std::alloc::{AllocError, Global};
 use std::marker::Model;
 
@@ -89,10 +89,37 @@ pub fn predict(
         (prediction_unless_too_many table.now ion.now charge coverage) }
     ensures predicted { IfOk result (λ p. ArePredicted p.members) }
 {
+    predict_with(
+        alloc,
+        table,
+        ion,
+        charge,
+        coverage,
+        &mut GrownLists::new(alloc),
+    )
+}
+
+/// The same, which begins with the lists of elements that an earlier one kept, and keeps those of its own.
+pub(crate) fn predict_with(
+    alloc: Global,
+    table: &Table,
+    ion: &Formula,
+    charge: i32,
+    coverage: u64,
+    kept: &mut GrownLists,
+) -> Result<Prediction, CoverFault>
+    requires known { HasItems table.now ion.now }
+    requires few_charges { unsigned_abs charge ≤ 30 }
+    requires some { 1 ≤ coverage }
+    requires below_one { coverage ≤ 999999 * 10 ^ 12 }
+    ensures prediction { Gives is_memory result
+        (prediction_unless_too_many table.now ion.now charge coverage) }
+    ensures predicted { IfOk result (λ p. ArePredicted p.members) }
+{
     // An ion has 1 to 20,000 atoms, so each mass is in range.
     let _atoms = ion.atoms();
     let elements = elements_of(alloc, table, ion)?;
-    let layer = reaching_layer(alloc, &elements, coverage)?;
+    let layer = reaching_layer_with(alloc, &elements, coverage, kept)?;
     Ok(Prediction {
         size: layer.size() as u64,
         bound: layer.bound() as u64,
@@ -116,12 +143,12 @@ fn members_of(
         ≡ map (predicted_member table.now ion.now charge) (take layer.now.size layer.now.members)) }
     ensures masses { IfOk result (λ members. All IsPredicted members.items) }
 {
-    let printed = PrintedIsotopes::of(alloc, table, ion)?;
+    let masses = IsotopeMasses::of(alloc, table, ion)?;
     let electrons = electrons_of(table, charge);
     let mut members = Vec::with_capacity(alloc, layer.size())?;
     for place in 0..layer.size() {
         let counts = layer.counts(place);
-        let mass = printed.mass(counts);
+        let mass = masses.mass(counts);
         let enclosure = layer.enclosure(place);
         members.push(Predicted {
             mass: i128::from(mass) - electrons,

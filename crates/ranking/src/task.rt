@@ -1,15 +1,15 @@
 //! What is ranked, and how one candidate is.
 ghost use Rattle.std.specs.Prelude.{◌≡◌, ◌+◌, ◌<◌, ◌^◌, IfOk};
 ghost use Rattle.ranking.specs.RankJobs.{HasIon, IsTask};
-ghost use Rattle.ranking.specs.Ratings.{RatedAs, IsRatingOf, peaks_of, task_of};
+ghost use Rattle.ranking.specs.Ratings.{RatedAs, RatedWithin, IsRatingOf, peaks_of, task_of};
 
 use crate::fault::RankFault;
-use crate::prediction::{Prediction, predict};
+use crate::prediction::{Prediction, predict_with};
 use adducts::ion_of;
 use candidates::Ground;
 use formula_text::Formula;
 use prediction_score::PeakOrder;
-use reaching_layer::CoverFault;
+use reaching_layer::{CoverFault, GrownLists};
 use std::alloc::{AllocError, Global};
 
 /// The peaks that predictions are held against: an order of a job's own, or one that several share.
@@ -57,8 +57,33 @@ impl<'t> Task<'t> {
         self.place as u64 + 1
     }
 
+    /// The rating of a candidate of which so many more may be given, which may be one too many.
+    pub(crate) fn rated_within(
+        &self,
+        alloc: Global,
+        room: u64,
+        formula: &Formula,
+        kept: &mut GrownLists,
+    ) -> Result<Rating, RankFault>
+        requires task { IsTask (task_of self.now) }
+        requires ion { HasIon (task_of self.now) formula.now }
+        ensures { RatedWithin (task_of self.now) room formula.now result }
+    {
+        if room == 0 {
+            return Err(RankFault::TooMany {
+                peak: self.number(),
+            });
+        }
+        self.rated(alloc, formula, kept)
+    }
+
     /// The rating of a candidate, or that its ion has too large a layer.
-    pub(crate) fn rated(&self, alloc: Global, formula: &Formula) -> Result<Rating, RankFault>
+    fn rated(
+        &self,
+        alloc: Global,
+        formula: &Formula,
+        kept: &mut GrownLists,
+    ) -> Result<Rating, RankFault>
         requires task { IsTask (task_of self.now) }
         requires ion { HasIon (task_of self.now) formula.now }
         ensures { RatedAs (task_of self.now) formula.now result }
@@ -68,7 +93,7 @@ impl<'t> Task<'t> {
             unreachable!()
         };
         let table = self.premises.table();
-        match predict(alloc, table, &ion, adduct.charge(), self.coverage) {
+        match predict_with(alloc, table, &ion, adduct.charge(), self.coverage, kept) {
             Ok(prediction) => Ok(self.scored(alloc, &prediction)?),
             Err(CoverFault::TooMany { .. }) => Err(RankFault::Layer {
                 peak: self.number(),

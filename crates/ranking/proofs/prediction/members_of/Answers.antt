@@ -6,7 +6,7 @@ use Rattle.std.proofs.lemmas.List.Elements.{All-push}
 use Rattle.isotopologue_sets.specs.Covers.{Member}
 use Rattle.formula_text.specs.Formulas.{atoms_of}
 use Rattle.isotopologue_text.specs.Isotopologues.{IsIsotopologueOf, isotopologue_mass_of}
-use Rattle.isotopologue_text.specs.Printed.{Printed, printed_mass}
+use Rattle.isotopologue_text.specs.Weighed.{Weighed, weighed_mass}
 use Rattle.isotopologue_text.proofs.CountsLemmas.{counts-agree, counts-few}
 use Rattle.cover_certificate.proofs.PrintedMembers.{is_isotopologue_of}
 use Rattle.prediction_score.specs.declared.predicted.Predicted.{Predicted}
@@ -32,7 +32,7 @@ pub mass-mass-requires-clause-agree : goal.mass-mass-requires-clause-agree
 mass-mass-requires-clause-agree c =
     counts-agree c.args.table.now c.args.ion.now c.counts-counts.result.now
     (of_ion (goal.at.mass-mass-requires-clause-agree c).After-counts-counts)
-    ∙ ap (λ (p : Printed). length p.isotopes) (sym c.in_ok-printed.ensures)
+    ∙ ap (λ (w : Weighed). length w.isotopes) (sym c.in_ok-masses.ensures)
 
 pub mass-mass-requires-clause-few_atoms : goal.mass-mass-requires-clause-few_atoms
 mass-mass-requires-clause-few_atoms c =
@@ -58,7 +58,7 @@ loop-place-preserved c =
     let within : i < length ms = omega (arith, c.loop-place-test.true, c.size-place-end.ensures.within) in
     let of : IsIsotopologueOf table ion counts = of_ion (goal.at.loop-place-preserved c).After-counts-counts in
     let mass_is : mass ≡ isotopologue_mass_of table ion counts =
-    c.mass-mass.ensures ∙ ap (λ (p : Printed). printed_mass p counts) c.in_ok-printed.ensures in
+    c.mass-mass.ensures ∙ ap (λ (w : Weighed). weighed_mass w counts) c.in_ok-masses.ensures in
     let electrons_is : electrons ≡ electrons_of table charge =
     simp to_z-of_z at c.electrons_of-electrons.ensures.mass in
     let value : Predicted = record { mass = c.from.result -ℤ electrons; lo = lo } in

@@ -13,15 +13,9 @@ opened c =
 first : (c : In-Some) → waiting_of c.self.inside.waiting ≡ c.in-Some.formula ∷ waiting_of c.take.new.self
 first c = rw c.in-Some.is at c.in_ok-formula.ensures.taken
 
-pub invariant_of-self-2 : goal.invariant_of-self-2
-invariant_of-self-2 c =
-    let at = (goal.at.invariant_of-self-2 c).In-Some in
-    taken-IsState c.args.self.now (opened at) c.self.view_is c.in-Some.formula (waiting_of c.take.new.self) (first at)
-    c.self.inside.room c.self.invariant
-
-pub rated-requires : goal.rated-requires
-rated-requires c =
-    let at = (goal.at.rated-requires c).In-Some in
+pub rated_within-rated-requires-clause-ion : goal.rated_within-rated-requires-clause-ion
+rated_within-rated-requires-clause-ion c =
+    let at = (goal.at.rated_within-rated-requires-clause-ion c).In-Some in
     taken-HasIon c.args.self.now (opened at) c.self.view_is c.in-Some.formula (waiting_of c.take.new.self) (first at)
     c.self.invariant
 

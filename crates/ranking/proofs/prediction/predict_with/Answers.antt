@@ -11,11 +11,11 @@ use Rattle.reaching_layer.specs.LayerAnswers.{is_memory, numbers_unless_too_many
 use Rattle.isotopologue_text.specs.Isotopologues.{formula_elements}
 use Rattle.ranking.specs.Predictions.{PredictionEntries, predicted_member, prediction_unless_too_many}
 use Rattle.ranking.proofs.CoverPredictions.{prediction_answer, prediction_fault, members-ArePredicted}
-use Rattle.ranking.proofs.prediction.predict.Goals as goal
-use Rattle.ranking.proofs.prediction.predict.Goals.{In_ok-layer}
+use Rattle.ranking.proofs.prediction.predict_with.Goals as goal
+use Rattle.ranking.proofs.prediction.predict_with.Goals.{In_ok-layer}
 
-pub reaching_layer-requires-clause-elements : goal.reaching_layer-requires-clause-elements
-reaching_layer-requires-clause-elements c = rw c.deref.ensures.value c.in_ok-elements.ensures.within_limits
+pub reaching_layer_with-requires-clause-elements : goal.reaching_layer_with-requires-clause-elements
+reaching_layer_with-requires-clause-elements c = rw c.deref.ensures.value c.in_ok-elements.ensures.within_limits
 
 elements : (c : In_ok-layer) → c.deref.result.now ≡ formula_elements c.args.table.now c.args.ion.now
 elements c = c.deref.ensures.value ∙ c.in_ok-elements.ensures.elements
