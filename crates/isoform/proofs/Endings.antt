@@ -9,20 +9,26 @@ use Rattle.command_words.specs.WordReading as words
 use Rattle.command_words.specs.declared.request.Request.{Request}
 use Rattle.command_words.specs.declared.fault.WordsFault.{WordsFault}
 use Rattle.command_words.specs.declared.fault.WordsFault.TheVariants as words_fault
+use Rattle.command_io.specs.Asked.{Asked, Names}
+use Rattle.command_io.specs.Refusals.{of_words_fault}
+use Rattle.command_io.specs.Parts.{AnswersAs, Ending, IsPart, OnlyReads, Puts}
+use Rattle.command_io.specs.Parts.{Reads, Shelved}
+use Rattle.command_io.specs.declared.refusal.Refusal.{Refusal}
+use Rattle.command_io.specs.declared.refusal.Refusal.TheVariants.{Words, Input, ReadFault, WriteFault, Memory}
+use Rattle.command_io.proofs.PartLaws.{all_names, if_some_map}
+use Rattle.formula_reports.specs.Reports.{formulas_json}
+use Rattle.formula_reports.specs.Reports.{formulas_report}
+use Rattle.cover_reports.specs.Reports.{cover_json}
+use Rattle.cover_reports.specs.Reports.{accepted_report, certificate_report, cover_report}
+use Rattle.ranking_reports.specs.Reports.{rank_json}
+use Rattle.ranking_reports.specs.Reports.{generate_report, rank_report}
 use Rattle.isoform.specs.Answer.{Outcome, Formulas, Cover, Certified, Checked, Ranks, Generates, IsReport}
 use Rattle.isoform.specs.Answer.{FormulasJson, CoverJson, RanksJson}
 use Rattle.isoform.specs.Answer.{answer, answer_if, answer_of_request, file_names, names_if, names_of_request}
-use Rattle.isoform.specs.Asked.{Asked, Names, asked_as, result_as}
+use Rattle.isoform.specs.Answer.{asked_as, result_as}
 use Rattle.isoform.specs.Claims.{Holds}
-use Rattle.isoform.specs.JsonReports.{cover_json, formulas_json, rank_json}
-use Rattle.isoform.specs.RankReports.{generate_report, rank_report}
-use Rattle.isoform.specs.Refusals.{of_words_fault}
-use Rattle.isoform.specs.Reports.{accepted_report, certificate_report, cover_report, formulas_report}
-use Rattle.isoform.specs.Outside.{AnswersAs, Ending, EndsAs, IsPart, IsPut, IsTold, NoWordsFault, OnlyReads, Outside, Puts}
-use Rattle.isoform.specs.Outside.{Reads, ReceivesSome, ReceivesSomeOf, RefusesWords, Serves, Shelved, Shows, outside}
-use Rattle.isoform.specs.declared.refusal.Refusal.{Refusal}
-use Rattle.isoform.specs.declared.refusal.Refusal.TheVariants.{Words, Input, ReadFault, WriteFault, Memory}
-use Rattle.isoform.proofs.PartLaws.{all_names, if_some_map}
+use Rattle.isoform.specs.Outside.{EndsAs, IsPut, IsTold, NoWordsFault, Outside}
+use Rattle.isoform.specs.Outside.{ReceivesSome, ReceivesSomeOf, RefusesWords, Serves, Shows, outside}
 
 -- each outcome has a report
 some_report : (outcome : Outcome) → (report : List ℕ) × IsReport outcome report

@@ -8,20 +8,23 @@ use Rattle.outside_ports.specs.Files.{Files}
 use Rattle.command_words.specs.declared.fault.WordsFault.{WordsFault}
 use Rattle.command_words.specs.declared.fault.WordsFault.TheVariants as words
 use Rattle.command_words.specs.declared.request.Request.{Request}
+use Rattle.command_io.specs.Asked.{Asked, Names}
+use Rattle.command_io.specs.Notes.{note_of, status_of, status_of_fault}
+use Rattle.command_io.specs.Parts.{Ending}
+use Rattle.command_io.specs.Refusals.{of_words_fault}
+use Rattle.command_io.specs.declared.input_fault.InputFault.{InputFault}
+use Rattle.command_io.specs.declared.input_fault.InputFault.TheVariants.{FileLimit, Table, Tracer, Peaks, NoPeak}
+use Rattle.command_io.specs.declared.input_fault.InputFault.TheVariants.{Alphabet}
+use Rattle.command_io.specs.declared.input_fault.InputFault.TheVariants.{Adduct, Rules, After, NotInBox, Formula, NoIon}
+use Rattle.command_io.specs.declared.input_fault.InputFault.TheVariants.{CandidateLimit, Layer, Certificate, Rejected}
+use Rattle.command_io.specs.declared.input_fault.InputFault.TheVariants.{CertificateLimit}
+use Rattle.command_io.specs.declared.refusal.Refusal.{Refusal}
+use Rattle.command_io.specs.declared.refusal.Refusal.TheVariants.{Words, Input, ReadFault, WriteFault, Memory}
+use Rattle.command_io.proofs.PartLaws.{all_names, if_some_map}
 use Rattle.isoform.specs.Answer.{Outcome}
-use Rattle.isoform.specs.Asked.{Asked, Names}
 use Rattle.isoform.specs.Claims.{Holds}
-use Rattle.isoform.specs.Notes.{note_of, status_of, status_of_fault}
-use Rattle.isoform.specs.Outside.{Ending, EndsAs, IsPut, Outside, ReceivesAll, ReceivesSome, ReceivesSomeOf}
+use Rattle.isoform.specs.Outside.{EndsAs, IsPut, Outside, ReceivesAll, ReceivesSome, ReceivesSomeOf}
 use Rattle.isoform.specs.Outside.{RefusesWords, Shows, TellsLastName, TellsNote, status_of_result}
-use Rattle.isoform.specs.Refusals.{of_words_fault}
-use Rattle.isoform.specs.declared.input_fault.InputFault.{InputFault}
-use Rattle.isoform.specs.declared.input_fault.InputFault.TheVariants.{FileLimit, Table, Tracer, Peaks, NoPeak, Alphabet}
-use Rattle.isoform.specs.declared.input_fault.InputFault.TheVariants.{Adduct, Rules, After, NotInBox, Formula, NoIon}
-use Rattle.isoform.specs.declared.input_fault.InputFault.TheVariants.{CandidateLimit, Layer, Certificate, Rejected, CertificateLimit}
-use Rattle.isoform.specs.declared.refusal.Refusal.{Refusal}
-use Rattle.isoform.specs.declared.refusal.Refusal.TheVariants.{Words, Input, ReadFault, WriteFault, Memory}
-use Rattle.isoform.proofs.PartLaws.{all_names, if_some_map}
 
 -- the status of what was given is 1, or from 3 to 6
 pub status_range : (fault : InputFault) →

@@ -2,26 +2,13 @@
 -- printed is accepted.
 use Rattle.std.specs.Prelude.{◌≡◌, ℕ, true, List, ◌∷◌, Option, Some, Ok, All, ⊤}
 use Rattle.outside_ports.specs.Files.{Files}
-use Rattle.element_table.specs.Elements.{TableEntries}
-use Rattle.certificate_text.specs.Certificates.{CertificateEntries}
-use Rattle.certificate_check.specs.CertificateMeaning.{CertificateMeans}
 use Rattle.command_words.specs.WordReading.{request_of}
 use Rattle.command_words.specs.declared.request.Request.{Request}
 use Rattle.command_words.specs.declared.request.Request.TheVariants.{Check, Envelope}
+use Rattle.command_io.specs.Steps.{tracer_names}
+use Rattle.cover_reports.specs.Claims.{SaysTrue}
 use Rattle.isoform.specs.Answer.{answer}
 use Rattle.isoform.specs.Outside.{status_of_answer}
-use Rattle.isoform.specs.Steps.{certificate_step, table_step, tracer_names, tracer_step}
-
--- The certificate of a file, read by the table of a file, with the weights of a tracer file where one is named: what it
--- says is true.
-pub record SaysTrue (table : List ℕ) (tracer : Option (List ℕ)) (name : List ℕ) (files : Files) : Type 0 where
-  pub elements : TableEntries
-  pub traced : TableEntries
-  pub certificate : CertificateEntries
-  pub table_is : (table_step table files).result ≡ Ok elements
-  pub traced_is : (tracer_step elements tracer files).result ≡ Ok traced
-  pub certificate_is : (certificate_step traced name files).result ≡ Ok certificate
-  pub means : CertificateMeans traced certificate
 
 -- the certificate that `check` was asked of, and accepted
 abbrev pub IsTrueCheck : Request → Files → Type 0

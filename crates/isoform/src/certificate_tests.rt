@@ -1,7 +1,5 @@
-//! Whole runs that write and check certificates: worked ones, the same with a line changed, and devices that fail.
-use crate::rows::{check_rows, refused, report, shelf_of, words_of};
-use crate::run;
-use outside_ports::MemorySink;
+//! Whole runs that write and check certificates: worked ones, and the same with a line changed.
+use crate::rows::{check_rows, refused, report};
 use std::test::Fail;
 
 const X: &[u8] = b"symbol,number,mass,abundance,valence
@@ -236,52 +234,5 @@ fn certificates_that_are_not_read(rt: HostRuntime) -> Result<(), Fail> {
         ),
     ];
     check_rows(&rt, rt.alloc(), FILES.as_slice(), &rows)?;
-    Ok(())
-}
-
-// A note that can't be told changes no status; a file of a certificate that can't be read is named.
-#[test]
-fn devices_that_fail_at_a_check(rt: HostRuntime) -> Result<(), Fail> {
-    let alloc = rt.alloc();
-    let open = words_of(alloc, "check --table x.csv --certificate open")?;
-    let mut shelf = shelf_of(alloc, FILES.as_slice())?;
-    let mut out = MemorySink::new(alloc, 64)?;
-    let mut notes = MemorySink::new(alloc, 64)?;
-    notes.fail_at(1, 0)?;
-    assert_eq!(rt; run(alloc, &open, &mut shelf, &mut out, &mut notes), 1);
-    assert!(rt; out.bytes().is_empty());
-    assert!(rt; notes.bytes().is_empty());
-
-    let two = words_of(alloc, "check --table x.csv --certificate two")?;
-    let mut failing = shelf_of(alloc, FILES.as_slice())?;
-    failing.fail_at(2)?;
-    let mut told = MemorySink::new(alloc, 64)?;
-    assert_eq!(rt; run(alloc, &two, &mut failing, &mut out, &mut told), 7);
-    assert!(rt; out.bytes().is_empty());
-    assert!(rt; told.bytes() == b"isoform: read fault: two\n".as_slice());
-    Ok(())
-}
-
-// Each line of a certificate is put by itself.
-#[test]
-fn a_certificate_may_break_off(rt: HostRuntime) -> Result<(), Fail> {
-    let alloc = rt.alloc();
-    let words = words_of(
-        alloc,
-        "envelope --table x.csv --formula X2 --coverage 0.75 --certificate",
-    )?;
-    for (call, taken, received) in [(1, 0, 0), (2, 4, 26), (9, 5, 140)] {
-        let mut shelf = shelf_of(alloc, FILES.as_slice())?;
-        let mut out = MemorySink::new(alloc, 512)?;
-        out.fail_at(call, taken)?;
-        let mut notes = MemorySink::new(alloc, 64)?;
-        let status = run(alloc, &words, &mut shelf, &mut out, &mut notes);
-        assert_eq!(rt; status, 8);
-        assert!(rt;
-            received <= TWO.len() && out.bytes() == &TWO[..received],
-            "put {call}"
-        );
-        assert!(rt; notes.bytes() == b"isoform: write fault\n".as_slice());
-    }
     Ok(())
 }

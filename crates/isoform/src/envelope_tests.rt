@@ -1,5 +1,5 @@
-//! Whole runs of `envelope`: the worked examples, what is refused, and devices that fail.
-use crate::rows::{ELEMENTS, EQUAL, check_cuts, check_rows, refused, report, unread};
+//! Whole runs of `envelope`: the worked examples, and what is refused.
+use crate::rows::{ELEMENTS, EQUAL, check_rows, refused, report};
 use std::test::Fail;
 
 /// Sixteen isotopes of equal weight.
@@ -329,33 +329,5 @@ fn a_table_with_a_fault_comes_before_the_formula_and_layers_last(
         ),
     ];
     check_rows(&rt, rt.alloc(), FILES.as_slice(), &rows)?;
-    Ok(())
-}
-
-#[test]
-fn each_put_and_each_fetch_of_an_envelope_may_fail(rt: HostRuntime) -> Result<(), Fail> {
-    check_cuts(
-        &rt,
-        rt.alloc(),
-        FILES.as_slice(),
-        "envelope --table equal.csv --formula X2 --coverage 0.75",
-        &[
-            (1, 0),
-            (1, 11),
-            (2, 3),
-            (3, 6),
-            (4, 0),
-            (5, 9),
-            (6, 20),
-            (7, 0),
-            (7, 72),
-        ],
-    )?;
-    let row = unread(
-        "envelope --table equal.csv --formula X2 --coverage 0.75",
-        1,
-        b"isoform: read fault: equal.csv\n",
-    );
-    check_rows(&rt, rt.alloc(), FILES.as_slice(), &[row])?;
     Ok(())
 }

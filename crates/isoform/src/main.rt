@@ -5,30 +5,20 @@
 //! status. `main` only hands it the process's own.
 //!
 //! Contracts see words and reports as their bytes, and files and streams as `outside_ports` shows them. The program
-//! stands on `command_words` for its words, on `element_table`, `peak_text`, `alphabet_text`, `adducts`,
-//! `golden_rules` and `formula_text` for what it reads, on `candidates` for the formulas of a peak, on
-//! `cover_certificate` for the cover of an ion and its certificate, on `certificate_check` for the judgement of one, on
-//! `peak_ranking` for ranked peaks, on `peak_generator` for made ones, on `report_lines` and `report_text` for lines, and
-//! on `outside_ports` for its devices.
+//! stands on `command_words` for its words, on `formula_reports` for `decompose`, on `cover_reports` for `envelope` and
+//! `check`, on `ranking_reports` for `rank` and `generate`, on `command_io` for refusals and their notes, and on
+//! `outside_ports` for its devices. Definitions of other crates are cited by what is claimed of reports.
 //! Nothing stands above it. It gives out [`request_of`] and [`cover_of`] with their types too.
 #![tactic(auto)]
 
-mod certified;
-mod check;
-mod decomposition;
-mod envelope;
-mod generation;
-mod input_fault;
-mod inputs;
-mod output;
-mod ranked_peaks;
-mod refusal;
 mod run;
 
 use outside_ports::{FileShelf, Sink, StreamSink};
 
 #[cfg(test)]
 mod certificate_tests;
+#[cfg(test)]
+mod device_tests;
 #[cfg(test)]
 mod envelope_tests;
 #[cfg(test)]
@@ -45,7 +35,7 @@ mod tests;
 ghost use Rattle.std.specs.Prelude.{◌≡◌, ◌≢◌, ◌<◌, drop};
 ghost use Rattle.outside_ports.specs.Faults.{Rose};
 
-use crate::refusal::{MEMORY_NOTE, WRITE_FAULT_NOTE};
+use command_io::{MEMORY_NOTE, WRITE_FAULT_NOTE};
 pub use command_words::{Request, Word, WordsFault, request_of};
 pub use cover_certificate::{Cover, CoverFault, CoverMember, cover_of};
 pub use run::run;

@@ -1,6 +1,6 @@
 //! Whole runs over a shelf of small files: peaks, tolerances, adducts, rules, pages and tracers, and what of these is
 //! refused.
-use crate::rows::{AB, ELEMENTS, EQUAL, LIGHT, check_cuts, check_rows, refused, report, unread};
+use crate::rows::{AB, ELEMENTS, EQUAL, LIGHT, check_rows, refused, report};
 use std::test::Fail;
 
 /// Rules that only formulas of one symbol meet.
@@ -323,60 +323,5 @@ fn what_a_request_names_is_refused_in_order(rt: HostRuntime) -> Result<(), Fail>
         ),
     ];
     check_rows(&rt, rt.alloc(), FILES.as_slice(), &rows)?;
-    Ok(())
-}
-
-#[test]
-fn each_fetch_may_fail(rt: HostRuntime) -> Result<(), Fail> {
-    // The fetch of this number, and the name asked.
-    let rows = [
-        unread(
-            "decompose --table ab.csv --peaks two.csv --ppm 1 --alphabet AB --rules c.txt",
-            1,
-            b"isoform: read fault: ab.csv\n",
-        ),
-        unread(
-            "decompose --table ab.csv --peaks two.csv --ppm 1 --alphabet AB --rules c.txt",
-            2,
-            b"isoform: read fault: two.csv\n",
-        ),
-        unread(
-            "decompose --table ab.csv --peaks two.csv --ppm 1 --alphabet AB --rules c.txt",
-            3,
-            b"isoform: read fault: c.txt\n",
-        ),
-        unread(
-            "envelope --table equal.csv --tracer tracer.csv --formula X --coverage 0.5",
-            2,
-            b"isoform: read fault: tracer.csv\n",
-        ),
-        refused(
-            "decompose --table ab.csv --mass 10 --ppm 1 --alphabet AB --rules away.txt",
-            7,
-            b"isoform: read fault: away.txt\n",
-        ),
-    ];
-    check_rows(&rt, rt.alloc(), FILES.as_slice(), &rows)?;
-    Ok(())
-}
-
-#[test]
-fn a_report_of_two_peaks_is_cut_where_a_put_fails(rt: HostRuntime) -> Result<(), Fail> {
-    check_cuts(
-        &rt,
-        rt.alloc(),
-        FILES.as_slice(),
-        "decompose --table ab.csv --peaks two.csv --ppm 1 --alphabet AB",
-        &[
-            (1, 3),
-            (2, 3),
-            (3, 3),
-            (4, 3),
-            (5, 3),
-            (6, 3),
-            (7, 3),
-            (8, 3),
-        ],
-    )?;
     Ok(())
 }

@@ -1,5 +1,5 @@
 //! Whole runs of `rank` and `generate` over a shelf of small files.
-use crate::rows::{AB, ELEMENTS, Failing, check_cuts, check_rows, refused, report, run_over};
+use crate::rows::{AB, ELEMENTS, Failing, check_rows, refused, report, run_over};
 use std::test::Fail;
 
 /// Sixteen isotopes, of which a hundred atoms have too many isotopologues.
@@ -126,18 +126,6 @@ fn stops_of_jobs_are_met_in_their_turns(rt: HostRuntime) -> Result<(), Fail> {
         ),
     ];
     check_rows(&rt, rt.alloc(), FILES.as_slice(), &rows)?;
-    Ok(())
-}
-
-#[test]
-fn each_line_of_a_ranking_is_put_alone(rt: HostRuntime) -> Result<(), Fail> {
-    check_cuts(
-        &rt,
-        rt.alloc(),
-        FILES.as_slice(),
-        "rank --table ab.csv --peaks two.csv --ppm 1 --alphabet AB --coverage 0.9",
-        &[(1, 0), (2, 4), (3, 0), (8, 16)],
-    )?;
     Ok(())
 }
 

@@ -87,17 +87,6 @@ pub fn refused(words: &'static str, status: u8, note: &'static [u8]) -> Row {
     }
 }
 
-/// A row whose fetch of this number fails.
-pub fn unread(words: &'static str, call: u64, note: &'static [u8]) -> Row {
-    Row {
-        words,
-        failing: Failing::Fetch(call),
-        status: 7,
-        out: b"",
-        note,
-    }
-}
-
 /// How a run ended.
 #[derive(Drop)]
 pub struct RunEnd {
@@ -159,40 +148,4 @@ pub fn check_rows(
         assert!(rt; end.notes.bytes() == row.note, "{}", row.words);
     }
     Ok(())
-}
-
-/// Runs the words whole, and then with each of these puts failing once it took so many bytes, fewer than the line has:
-/// the output has the lines before that put and these bytes.
-pub fn check_cuts(
-    rt: &impl Abort,
-    alloc: Global,
-    files: &[(&str, &[u8])],
-    words: &str,
-    puts: &[(u64, u64)],
-) -> Result<(), AllocError> {
-    let whole = run_over(alloc, files, words, Failing::Nothing)?;
-    assert!(rt; whole.status == 0, "{words}");
-    for (call, taken) in puts {
-        let put = Failing::Put {
-            call: *call,
-            taken: *taken,
-        };
-        let cut = run_over(alloc, files, words, put)?;
-        assert!(rt; cut.status == 8, "put {call}");
-        assert!(rt;
-            cut.notes.bytes() == b"isoform: write fault\n".as_slice(),
-            "put {call}"
-        );
-        let received = cut.out.bytes();
-        assert!(rt; whole.out.bytes().starts_with(received), "put {call}");
-        assert!(rt; end_of(received) == (*call, *taken), "put {call}");
-    }
-    Ok(())
-}
-
-/// The number of the line that bytes break off in, from 1, and how many of its bytes there are.
-fn end_of(bytes: &[u8]) -> (u64, u64) {
-    let lines = bytes.iter().filter(|byte| **byte == b'\n').count();
-    let rest = bytes.iter().rev().position(|byte| *byte == b'\n');
-    (lines as u64 + 1, rest.unwrap_or(bytes.len()) as u64)
 }

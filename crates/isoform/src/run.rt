@@ -1,6 +1,6 @@
 //! The program: from its words and a shelf of files to an output, notes and a status.
-ghost use Rattle.std.specs.Prelude.{◌≡◌, ◌≢◌, ◌<◌, ◌≤◌, ◌⊎◌, ◌++◌, ℕ, List, map, take, string_bytes, Some, Result, Ok, Err};
-ghost use Rattle.std.specs.Prelude.{IfErr, IfOk, IfSome, IsErr, IsOkAnd};
+ghost use Rattle.std.specs.Prelude.{◌≡◌, ◌≢◌, ◌<◌, ◌≤◌, ◌⊎◌, ◌++◌, ℕ, List, map, take, string_bytes, Some, Result, Ok};
+ghost use Rattle.std.specs.Prelude.{Err, IfErr, IfOk, IfSome, IsErr, IsOkAnd};
 ghost use Rattle.outside_ports.specs.Faults.{Rose};
 ghost use Rattle.mass_scaling.specs.Limits.{IsTolerance};
 ghost use Rattle.mass_scaling.specs.declared.limits.TheConstants.{MAX_MZ};
@@ -8,31 +8,29 @@ ghost use Rattle.command_words.specs.Requests.{HasRanges, IsWithin};
 ghost use Rattle.command_words.specs.declared.options.TheConstants.{MAX_COVERAGE, MAX_NUMBER, MAX_PEAK, MIN_COVERAGE};
 ghost use Rattle.command_words.specs.declared.options.TheConstants.{MIN_MZ, MIN_PEAK};
 ghost use Rattle.command_words.specs.WordReading.{request_of};
+ghost use Rattle.command_io.specs.Notes.{note_of, status_of};
+ghost use Rattle.command_io.specs.declared.refusal.Refusal.TheVariants.{Memory, WriteFault};
+ghost use Rattle.formula_reports.specs.Answers.{decompose_names, decompose_query};
+ghost use Rattle.cover_reports.specs.Answers.{certified_query, check_names, check_query, envelope_names};
+ghost use Rattle.cover_reports.specs.Answers.{envelope_query};
+ghost use Rattle.ranking_reports.specs.Answers.{generate_names, generate_query, rank_names, rank_query};
 ghost use Rattle.isoform.specs.Answer.{Certified, Checked, Generates, IsReport, cover_in, formulas_in, ranks_in};
-ghost use Rattle.isoform.specs.Answer.{answer, answer_of_request};
-ghost use Rattle.isoform.specs.Answer.{certified_query, check_names, check_query, decompose_names, decompose_query};
-ghost use Rattle.isoform.specs.Answer.{envelope_names, envelope_query, file_names, names_of_request};
-ghost use Rattle.isoform.specs.Asked.{asked_as};
+ghost use Rattle.isoform.specs.Answer.{answer, answer_of_request, file_names, names_of_request, asked_as};
 ghost use Rattle.isoform.specs.CertificateClaims.{IsAcceptedLater, IsTrueCheck};
 ghost use Rattle.isoform.specs.Claims.{Holds};
-ghost use Rattle.isoform.specs.Notes.{note_of, status_of};
-ghost use Rattle.isoform.specs.Outside.{EndsAs, IsPut, IsTold, ReceivesAll, ReceivesSomeOf, RefusesWords};
-ghost use Rattle.isoform.specs.Outside.{Runs, Serves, Shows, TellsLastName, TellsNote, outside, status_of_answer};
-ghost use Rattle.isoform.specs.RankAnswers.{generate_names, generate_query, rank_names, rank_query};
-ghost use Rattle.isoform.specs.declared.refusal.Refusal.TheVariants.{Memory, WriteFault};
+ghost use Rattle.isoform.specs.Outside.{EndsAs, IsPut, IsTold, ReceivesAll, ReceivesSomeOf, RefusesWords, Runs, Serves};
+ghost use Rattle.isoform.specs.Outside.{Shows, TellsLastName, TellsNote, outside, status_of_answer};
 
-use crate::certified::CertifiedCover;
-use crate::check::{Check, CheckOptions};
-use crate::decomposition::{DecomposeOptions, Decomposition};
-use crate::envelope::{Envelope, EnvelopeOptions};
-use crate::generation::{GenerateOptions, Generation};
-use crate::ranked_peaks::{
-    RankOptions, ranked_peaks, read_ranking, write_ranking, write_ranking_json,
-};
-use crate::refusal::{MEMORY_NOTE, Refusal, WRITE_FAULT_NOTE};
+use command_io::{MEMORY_NOTE, Refusal, WRITE_FAULT_NOTE};
 use command_words::{Request, request_of};
+use cover_reports::{CertifiedCover, Check, CheckOptions, Envelope, EnvelopeOptions};
+use formula_reports::{DecomposeOptions, Decomposition};
 use outside_ports::{Shelf, Sink};
 use prediction_score::PeakOrder;
+use ranking_reports::{
+    GenerateOptions, Generation, RankOptions, ranked_peaks, read_ranking, write_ranking,
+    write_ranking_json,
+};
 use std::alloc::{AllocError, Global};
 
 /// Serves `decompose`: reads what it is over, and writes its report or says why there is none.

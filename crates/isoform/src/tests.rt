@@ -1,8 +1,6 @@
-//! Whole runs of `decompose` at one mass: the worked examples, words, files and devices that fail.
+//! Whole runs of `decompose` at one mass: the worked examples, words and files.
 use crate::finish;
-use crate::rows::{
-    AB, ELEMENTS, Failing, LIGHT, Row, check_cuts, check_rows, refused, report, run_over, unread,
-};
+use crate::rows::{AB, ELEMENTS, Failing, LIGHT, check_rows, refused, report, run_over};
 use outside_ports::{MemorySink, StreamSink};
 use std::io::{self, ErrorKind, Write};
 use std::test::Fail;
@@ -210,66 +208,6 @@ fn an_alphabet_with_a_fault_or_too_many_formulas_is_refused(rt: HostRuntime) -> 
             6,
             b"isoform: limit: candidates of peak 1\n",
         ),
-    ];
-    check_rows(&rt, rt.alloc(), FILES.as_slice(), &rows)?;
-    Ok(())
-}
-
-#[test]
-fn each_put_may_fail(rt: HostRuntime) -> Result<(), Fail> {
-    check_cuts(
-        &rt,
-        rt.alloc(),
-        FILES.as_slice(),
-        "decompose --table ab.csv --mass 10 --da 0.00001 --alphabet AB",
-        &[
-            (1, 0),
-            (1, 1),
-            (1, 11),
-            (2, 0),
-            (2, 1),
-            (2, 4),
-            (2, 22),
-            (3, 0),
-            (3, 1),
-            (3, 43),
-            (4, 0),
-            (4, 1),
-            (4, 50),
-        ],
-    )?;
-    // A report of 122 lines.
-    check_cuts(
-        &rt,
-        rt.alloc(),
-        FILES.as_slice(),
-        "decompose --table light.csv --mass 3.5 --da 0 --alphabet ABCD",
-        &[(122, 0), (122, 20), (40, 7), (1, 3)],
-    )?;
-    Ok(())
-}
-
-#[test]
-fn a_fetch_may_fail_and_a_note_too(rt: HostRuntime) -> Result<(), Fail> {
-    let rows = [
-        unread(
-            "decompose --table ab.csv --mass 10 --da 0.00001 --alphabet AB",
-            1,
-            b"isoform: read fault: ab.csv\n",
-        ),
-        refused(
-            "decompose --table absent.csv --mass 10 --da 0.00001 --alphabet AB",
-            7,
-            b"isoform: read fault: absent.csv\n",
-        ),
-        // A note that can't be told changes no status.
-        Row {
-            words: "decompose --table absent.csv --mass 10 --da 0.00001 --alphabet AB",
-            failing: Failing::Note { taken: 9 },
-            status: 7,
-            out: b"",
-            note: b"isoform: ",
-        },
     ];
     check_rows(&rt, rt.alloc(), FILES.as_slice(), &rows)?;
     Ok(())

@@ -1,6 +1,6 @@
 use Rattle.std.proofs.Common.{refl, sym, ap, ◌∙◌, inl, inr}
-use Rattle.isoform.specs.Notes.{note_of}
-use Rattle.isoform.specs.declared.refusal.Refusal.TheVariants.{Memory}
+use Rattle.command_io.specs.Notes.{note_of}
+use Rattle.command_io.specs.declared.refusal.Refusal.TheVariants.{Memory}
 use Rattle.isoform.proofs.Endings.{put_as}
 use Rattle.isoform.proofs.run.refuse.Goals as goal
 use Rattle.isoform.proofs.run.refuse.Goals.{in-WriteFault, in-Memory, in_default+in-Ok}

@@ -1,11 +1,11 @@
 use Rattle.std.proofs.Common.{refl}
 use Rattle.std.specs.Prelude.{Ok, Err, map, string_bytes}
 use Rattle.command_words.specs.WordReading.{request_of}
+use Rattle.command_io.proofs.PartLaws.{all_names, if_some_map}
 use Rattle.isoform.specs.Answer.{answer}
 use Rattle.isoform.specs.Outside.{ReceivesAll, outside}
 use Rattle.isoform.proofs.CertificateRuns.{run_certifies, run_checks}
 use Rattle.isoform.proofs.Endings.{told_ends, told_refuses, told_shows}
-use Rattle.isoform.proofs.PartLaws.{all_names, if_some_map}
 use Rattle.isoform.proofs.RunClauses.{asked_up_to, asked_within, last_name, memory_note, never_zero, no_request}
 use Rattle.isoform.proofs.RunClauses.{noted, noted_nothing, refused_words, request_served, some_received, write_note}
 use Rattle.isoform.proofs.run.run.Goals as goal

@@ -1,9 +1,10 @@
 use Rattle.std.proofs.Common.{refl}
 use Rattle.std.specs.Prelude.{map, string_bytes}
 use Rattle.std.proofs.lemmas.Result.{err_from_is_err_and}
+use Rattle.command_io.proofs.PartLaws.{if_some_map, if_some_of}
 use Rattle.isoform.specs.Outside.{outside}
-use Rattle.isoform.proofs.Endings.{refused_words_end, refused_words_show, words_end, words_refused, words_show, words_stand}
-use Rattle.isoform.proofs.PartLaws.{if_some_map, if_some_of}
+use Rattle.isoform.proofs.Endings.{refused_words_end, refused_words_show, words_end, words_refused, words_show}
+use Rattle.isoform.proofs.Endings.{words_stand}
 use Rattle.isoform.proofs.run.serve.Goals as goal
 
 pub returns-in_err-request : goal.returns-in_err-request

@@ -1,7 +1,8 @@
 use Rattle.std.proofs.Common.{refl}
 use Rattle.std.proofs.lemmas.Result.{err_from_is_err_and}
-use Rattle.isoform.specs.Answer.{Certified, envelope_names, certified_query}
-use Rattle.isoform.specs.Reports.{certificate_report}
+use Rattle.cover_reports.specs.Answers.{envelope_names, certified_query}
+use Rattle.cover_reports.specs.Reports.{certificate_report}
+use Rattle.isoform.specs.Answer.{Certified}
 use Rattle.isoform.proofs.Endings.{unread_serves, written_serves}
 use Rattle.isoform.proofs.run.serve_certified.Goals as goal
 

@@ -1,7 +1,8 @@
 use Rattle.std.proofs.Common.{refl}
 use Rattle.std.proofs.lemmas.Result.{err_from_is_err_and}
-use Rattle.isoform.specs.Answer.{Checked, check_names, check_query}
-use Rattle.isoform.specs.Reports.{accepted_report}
+use Rattle.cover_reports.specs.Answers.{check_names, check_query}
+use Rattle.cover_reports.specs.Reports.{accepted_report}
+use Rattle.isoform.specs.Answer.{Checked}
 use Rattle.isoform.proofs.Endings.{unread_serves, written_serves}
 use Rattle.isoform.proofs.run.serve_check.Goals as goal
 

@@ -1,8 +1,9 @@
 use Rattle.std.proofs.Common.{true, false, refl}
 use Rattle.std.proofs.lemmas.Result.{err_from_is_err_and}
-use Rattle.isoform.specs.Answer.{decompose_names, decompose_query, formulas_in}
-use Rattle.isoform.specs.JsonReports.{formulas_json}
-use Rattle.isoform.specs.Reports.{formulas_report}
+use Rattle.formula_reports.specs.Answers.{decompose_names, decompose_query}
+use Rattle.formula_reports.specs.Reports.{formulas_json}
+use Rattle.formula_reports.specs.Reports.{formulas_report}
+use Rattle.isoform.specs.Answer.{formulas_in}
 use Rattle.isoform.proofs.Endings.{unread_serves, written_serves}
 use Rattle.isoform.proofs.run.serve_decompose.Goals as goal
 

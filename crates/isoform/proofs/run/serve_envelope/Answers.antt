@@ -1,8 +1,9 @@
 use Rattle.std.proofs.Common.{true, false, refl}
 use Rattle.std.proofs.lemmas.Result.{err_from_is_err_and}
-use Rattle.isoform.specs.Answer.{cover_in, envelope_names, envelope_query}
-use Rattle.isoform.specs.JsonReports.{cover_json}
-use Rattle.isoform.specs.Reports.{cover_report}
+use Rattle.cover_reports.specs.Answers.{envelope_names, envelope_query}
+use Rattle.cover_reports.specs.Reports.{cover_json}
+use Rattle.cover_reports.specs.Reports.{cover_report}
+use Rattle.isoform.specs.Answer.{cover_in}
 use Rattle.isoform.proofs.Endings.{unread_serves, written_serves}
 use Rattle.isoform.proofs.run.serve_envelope.Goals as goal
 

@@ -3,19 +3,19 @@ use Rattle.std.specs.Prelude.{option_and_then, Result, Ok, Err}
 use Rattle.std.proofs.lemmas.Result.{err_from_is_err_and}
 use Rattle.peak_ranking.specs.RankQueries.{RankQuery}
 use Rattle.peak_ranking.specs.RankedJobs.{RankedJob, met_fault, ranked_jobs}
+use Rattle.command_io.specs.Refusals.{GivesInput}
+use Rattle.command_io.specs.declared.input_fault.InputFault.{InputFault}
+use Rattle.command_io.specs.declared.refusal.Refusal.{Refusal}
+use Rattle.command_io.specs.declared.refusal.Refusal.TheVariants.{Memory}
+use Rattle.command_io.proofs.PartLaws.{part_end, part_end_stop}
+use Rattle.ranking_reports.specs.Claims.{RanksTrue}
+use Rattle.ranking_reports.specs.Answers.{generate_names, generate_query, generate_reading}
+use Rattle.ranking_reports.specs.Queries.{GenerateQuery}
+use Rattle.ranking_reports.specs.Reports.{generate_report}
+use Rattle.ranking_reports.specs.Steps.{limit_of, unless_stopped}
+use Rattle.ranking_reports.proofs.RankLines.{stopped_too, unstopped}
 use Rattle.isoform.specs.Answer.{Generates}
-use Rattle.isoform.specs.Claims.{RanksTrue}
-use Rattle.isoform.specs.RankAnswers.{generate_names, generate_query, generate_reading}
-use Rattle.isoform.specs.RankQueries.{GenerateQuery}
-use Rattle.isoform.specs.RankReports.{generate_report}
-use Rattle.isoform.specs.RankSteps.{limit_of, unless_stopped}
-use Rattle.isoform.specs.Refusals.{GivesInput}
-use Rattle.isoform.specs.declared.input_fault.InputFault.{InputFault}
-use Rattle.isoform.specs.declared.refusal.Refusal.{Refusal}
-use Rattle.isoform.specs.declared.refusal.Refusal.TheVariants.{Memory}
 use Rattle.isoform.proofs.Endings.{unread_serves, written_serves}
-use Rattle.isoform.proofs.PartLaws.{part_end, part_end_stop}
-use Rattle.isoform.proofs.RankLines.{stopped_too, unstopped}
 use Rattle.isoform.proofs.run.serve_generate.Goals as goal
 
 -- what is asked for, unless its turns meet a stop

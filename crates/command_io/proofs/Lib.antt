@@ -1,0 +1,4 @@
+pub mod PartLaws
+pub mod GivenSteps
+pub mod Puts
+pub mod PutLines

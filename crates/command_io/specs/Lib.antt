@@ -1,0 +1,5 @@
+pub mod Refusals
+pub mod Notes
+pub mod Asked
+pub mod Steps
+pub mod Parts

@@ -1,0 +1,4 @@
+pub mod CoverQueries
+pub mod CertifiedCovers
+pub mod PrintedMasses
+pub mod CheckedCertificates

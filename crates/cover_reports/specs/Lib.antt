@@ -1,0 +1,6 @@
+pub mod Queries
+pub mod Inputs
+pub mod Steps
+pub mod Reports
+pub mod Answers
+pub mod Claims

@@ -1,4 +1,0 @@
-use Rattle.isoform.proofs.decomposition.Decomposition.write_peak.Given as goal
-
-abbrev pub ghosts-put_formulas : goal.ghosts-put_formulas
-ghosts-put_formulas g a = record { name = a.blank.name; parts = a.blank.parts }

@@ -1,9 +1,0 @@
-use Rattle.isoform.specs.Asked.{asks_file}
-use Rattle.isoform.specs.RankSteps.{peak_list_in}
-use Rattle.isoform.proofs.PartLaws.{part_end}
-use Rattle.isoform.proofs.inputs.peak_list_of.Goals as goal
-
-pub returns : goal.returns
-returns g c =
-    part_end (λ v. v.items) (λ p. p) _ (asks_file 16777216 c.args.name.now) peak_list_in _ _ c.in_ok-bytes.bytes
-    c.peak_list_in.result c.in_ok-bytes.ensures (rw c.deref.ensures.value at c.peak_list_in.ensures)

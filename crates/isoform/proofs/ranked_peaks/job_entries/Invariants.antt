@@ -1,9 +1,0 @@
-use Rattle.std.proofs.Common.{◌≡◌, map, take}
-use Rattle.std.specs.List.{enumerate_from}
-use Rattle.report_text.specs.declared.report.Report.TheVariants.{Rank}
-use Rattle.isoform.specs.JsonReports.{job_in}
-use Rattle.isoform.proofs.ranked_peaks.job_entries.Given as goal
-
--- the entries of the first jobs were appended
-abbrev pub invariant-loop-job : goal.invariant-loop-job
-invariant-loop-job l = l.report ≡ Rank (map (job_in l.ranking) (take l.job (enumerate_from l.ranking.first l.ranked)))
