@@ -4,6 +4,7 @@ use Rattle.std.proofs.Common.{◌≡◌, ℕ, zero, suc, ◌+◌, ◌-◌, ◌*�
 use Rattle.std.proofs.Common.{MatchOption, List, [], ◌∷◌, ◌++◌, length, take, drop, set, get_or, refl, sym, ap, ◌∙◌}
 use Rattle.std.proofs.Common.{inl, inr, arith}
 use Rattle.std.specs.List.{All}
+use Rattle.std.specs.Option.{is_some}
 use Rattle.std.specs.Int.{div_ceil}
 use Rattle.std.proofs.lemmas.Grind.{div_ceil_times}
 use Rattle.std.proofs.lemmas.Bool.{cases_lt, and_left, and_right, lt-leb}
@@ -20,6 +21,11 @@ use Rattle.decompose.specs.declared.limits.Limit.{Limit}
 use Rattle.decompose.specs.declared.levels.Symbol.{Symbol}
 use Rattle.decompose.specs.declared.levels.Level.{Level}
 use Rattle.mass_scaling.specs.declared.windows.Window.{Window}
+
+-- what holds where there is nothing
+pub none_of : {A : Type 0} {P : Type 0} (Q : A → Type 0) (o : Option A) → is_some o ≡ false → MatchOption o P Q → P
+none_of Q None e h = h
+none_of Q (Some x) e h = absurd (cc)
 
 pub below_window : (window : Window) (mass : ℕ) → mass < window.lo → is_within window mass ≡ false
 below_window window mass h = and_left _ _ (lt-leb window.lo mass h)

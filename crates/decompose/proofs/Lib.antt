@@ -18,3 +18,4 @@ pub mod WalkBounds
 pub mod StepSums
 pub mod WorkedBounds
 pub mod LeapSteps
+pub mod StridesOfSymbols

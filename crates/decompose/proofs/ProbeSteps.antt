@@ -1,6 +1,6 @@
 -- Probes: what the levels of a walk leave of a scaled window, and where nothing can fill it.
 use Rattle.std.proofs.Common.{◌≡◌, ℕ, zero, suc, ◌+◌, ◌-◌, ◌*◌, ◌^◌, ◌<◌, ◌≤◌, Bool, true, false, leb, eqb, min, length}
-use Rattle.std.proofs.Common.{Option, Some, None, List, [], ◌∷◌, drop, get_or, refl, sym, ap, ◌∙◌}
+use Rattle.std.proofs.Common.{Option, None, List, [], ◌∷◌, drop, get_or, refl, sym, ap, ◌∙◌}
 use Rattle.std.proofs.Common.{inl, inr, subst, arith}
 use Rattle.std.specs.List.{find, All}
 use Rattle.std.specs.Bool.{OnTrue, OnFalse}

@@ -19,7 +19,7 @@ use borrow.Rule.Slice.PartMut.{put_mid}
 use Rattle.decompose.proofs.FirstOfBox.{find-box_from}
 use Rattle.decompose.proofs.FirstOfSlice.{put_rest}
 use Rattle.decompose.proofs.SearchSteps.{Searched, search_first}
-use Rattle.decompose.proofs.WalkSteps.{found_below, none_below, none_beyond, level_ordered}
+use Rattle.decompose.proofs.WalkSteps.{found_below, none_below, none_beyond, level_ordered, over_next, walk_begins_not}
 
 -- where the counts before this one are done, the lists that follow the given one are those from this count on
 from_here : (m : ℕ) (ms : List ℕ) (l : Limit) (ls : List Limit) (window : Window) (given : Option (List ℕ))
@@ -74,6 +74,18 @@ climb_none (s ∷ ss) window [] place d h box none = absurd h
 climb_none (s ∷ ss) window (v ∷ vs) zero d h box none = at_first s ss window v vs h box ∙ none
 climb_none (s ∷ ss) window (v ∷ vs) (suc place) d h box none =
     (h.0, climb_none ss v.left vs place d h.1 box.2 none)
+
+-- one more at the place is above its limit or what is left
+pub climb_over : (symbols : List Symbol) (window : Window) (levels : List Level) (place : ℕ) (d : Level) (e : Symbol) →
+    StandsAt symbols window levels (suc place) →
+    (((get_or symbols place e).limit.high ≤ (get_or levels place d).count)
+    ⊎ ((get_or levels place d).left.hi < (get_or symbols place e).mass)) →
+    at_place symbols window levels place d ≡ None
+climb_over [] window levels place d e h over = absurd h
+climb_over (s ∷ ss) window [] place d e h over = absurd h
+climb_over (s ∷ ss) window (v ∷ vs) zero d e h over =
+    walk_begins_not s ss (v.count + 1) window (over_next s.mass s.limit window v h.0 over)
+climb_over (s ∷ ss) window (v ∷ vs) (suc place) d e h over = climb_over ss v.left vs place d e h.1 over
 
 -- the list that is found at the place, behind the counts before it
 pub climb_found : (symbols : List Symbol) (window : Window) (levels : List Level) (place : ℕ) (d : Level) (x : List ℕ) →

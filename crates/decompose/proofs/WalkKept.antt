@@ -15,7 +15,7 @@ use Rattle.decompose.specs.Search.{enumeration, is_left}
 use Rattle.mass_scaling.specs.Masses.{base_of}
 use Rattle.mass_scaling.specs.Scales.{Scaling, scaled_of, grain_for}
 use Rattle.decompose.specs.Probes.{AreTables, HasNoList, IsScaledWindow, KnowsScaled}
-use Rattle.decompose.specs.Levels.{scaled_masses_of, symbols_of, masses_of, limits_of, counts_of, AreLevels}
+use Rattle.decompose.specs.Levels.{IsSymbol, scaled_masses_of, symbols_of, masses_of, limits_of, counts_of, AreLevels}
 use Rattle.decompose.specs.StepBounds.{HasNoScaledWindow, IsScaledWindowOf}
 use Rattle.decompose.specs.Walk.{IsWalk, StandsAt, given_of}
 use Rattle.decompose.specs.declared.limits.Limit.{Limit}
@@ -105,6 +105,15 @@ pub given_of-end : (stands : Option ℕ) (counts : List ℕ) →
 given_of-end None counts = refl
 given_of-end (Some depth) counts = refl
 
+-- the symbols of an alphabet's masses
+pub made_symbols_ok : (masses : List ℕ) (scale : Scaling) (residues : List ℕ) (limits : List Limit) →
+    AreTables masses scale residues → length limits ≡ length masses → All IsLimit limits →
+    All IsSymbol (symbols_of masses scale.scaled limits)
+made_symbols_ok masses scale residues limits tables one limits_ok =
+    symbols_are_ok masses scale.scaled limits
+    (ap length tables.scale_is.scaled ∙ length-map masses (λ m. m / grain_for (base_of masses))) one
+    tables.scale_is.are_masses.lower_limit tables.scaled_ok.upper_limit limits_ok
+
 -- a walk is made
 module _ (masses : List ℕ) (scale : Scaling) (residues : List ℕ) (limits : List Limit) (window : Window)
     (scaled : Option Window) (tables : AreTables masses scale residues) (one : length limits ≡ length masses)
@@ -122,8 +131,7 @@ module _ (masses : List ℕ) (scale : Scaling) (residues : List ℕ) (limits : L
   IsWalk-made levels stands length_ok box standing = record {
     masses_are = masses_are masses scale.scaled limits scaled_length one;
     scaled_are = scaled_are masses scale.scaled limits scaled_length one ∙ tables.scale_is.scaled;
-    symbols_ok = symbols_are_ok masses scale.scaled limits scaled_length one tables.scale_is.are_masses.lower_limit
-        tables.scaled_ok.upper_limit limits_ok;
+    symbols_ok = made_symbols_ok masses scale residues limits tables one limits_ok;
     one_level_each = length_ok ∙ sym (length_are masses scale.scaled limits scaled_length one);
     enumerates = rw (limits_are masses scale.scaled limits scaled_length one)
         record { one_limit_each = one; limits = limits_ok; window = window_ok; given = box };

@@ -1,6 +1,6 @@
 -- How the walk goes on from one count of a symbol to the next: over the masses m ∷ ms and the limits l ∷ ls, for the
 -- first list of the box whose mass is in the window and which comes after the given one.
-use Rattle.std.proofs.Common.{◌≡◌, ℕ, ◌+◌, ◌-◌, ◌*◌, ◌<◌, ◌≤◌, ◌⊎◌, eqb, true, length, Option, Some, None, List, []}
+use Rattle.std.proofs.Common.{◌≡◌, ℕ, ◌+◌, ◌-◌, ◌*◌, ◌<◌, ◌≤◌, ◌⊎◌, Bool, eqb, true, false, length, Option, Some, None, List, []}
 use Rattle.std.proofs.Common.{◌∷◌, get_or, set, refl, ap, ◌∙◌, inl, inr, subst, arith}
 use Rattle.std.specs.List.{find}
 use Rattle.std.proofs.lemmas.Bool.{cases_Bool, cases_lt, eqb-true, eqb-false, and_left, le-leb, lt-leb}
@@ -10,7 +10,7 @@ use Rattle.mass_scaling.specs.Masses.{mass_of}
 use Rattle.decompose.specs.CountLists.{box_of}
 use Rattle.decompose.specs.Enumeration.{is_within}
 use Rattle.decompose.specs.Search.{is_left}
-use Rattle.decompose.specs.Levels.{window_less, IsLevel, IsFirstWithin, NoneIsWithin, masses_of, limits_of}
+use Rattle.decompose.specs.Levels.{window_less, IsLevel, AreLevels, IsFirstWithin, NoneIsWithin, masses_of, limits_of, counts_of}
 use Rattle.decompose.specs.Walk.{limits_from, FindsFirst}
 use Rattle.decompose.specs.declared.limits.Limit.{Limit}
 use Rattle.decompose.specs.declared.levels.Symbol.{Symbol}
@@ -224,6 +224,35 @@ module _ (symbol : Symbol) (below : List Symbol) (count : ℕ) (window : Window)
           none_beyond symbol.mass (masses_of below) record { low = count; high = symbol.limit.high } (limits_of below)
           window None (level.count + 1) None after
           (over_next symbol.mass record { low = count; high = symbol.limit.high } window level r.is_level over)
+
+-- a search that ended, from the first symbol's own lower limit on
+module _ (symbols : List Symbol) (low : ℕ) (window : Window) (found : Bool) (before after_ : List Level)
+    (from_low : limits_from low (limits_of symbols) ≡ limits_of symbols)
+    (finds : FindsFirst symbols low window found before after_) where
+  pub first_is : found ≡ true →
+      (find (is_left (masses_of symbols) window None) (box_of (limits_of symbols)) ≡ Some (counts_of after_))
+      × AreLevels symbols window after_
+  first_is e =
+      let h : FindsFirst symbols low window true before after_ =
+      subst (λ b. FindsFirst symbols low window b before after_) e finds in
+      rw from_low at h
+
+  pub first_is_none : found ≡ false →
+      (find (is_left (masses_of symbols) window None) (box_of (limits_of symbols)) ≡ None) × (after_ ≡ before)
+  first_is_none e =
+      let h : FindsFirst symbols low window false before after_ =
+      subst (λ b. FindsFirst symbols low window b before after_) e finds in
+      rw from_low at h
+
+-- what is found for the two symbols of a slice is found for the slice
+pub pair_finds : (symbols : List Symbol) (d e : Symbol) (low : ℕ) (window : Window) (found : Bool)
+    (before after_ : List Level) → length symbols ≡ 2 →
+    FindsFirst (get_or symbols 0 d ∷ get_or symbols 1 e ∷ []) low window found before after_ →
+    FindsFirst symbols low window found before after_
+pair_finds [] d e low window found before after_ two h = absurd (omega arith)
+pair_finds (x ∷ []) d e low window found before after_ two h = absurd (omega arith)
+pair_finds (x ∷ y ∷ []) d e low window found before after_ two h = h
+pair_finds (x ∷ y ∷ z ∷ zs) d e low window found before after_ two h = absurd (omega arith)
 
 -- one level written
 pub one_written : (levels : List Level) (level : Level) → length levels ≡ 1 → set levels 0 level ≡ level ∷ []

@@ -18,6 +18,7 @@ use crate::levels::{Level, Symbol, counts_of, levels_of, symbols_of, write_count
 use crate::limits::Limit;
 use crate::mass_tables::Tables;
 use crate::probes::scaled_window_of;
+use crate::strides::Strides;
 use crate::walk::{find_left, stand_at};
 use mass_scaling::Window;
 use outside_ports::Steps;
@@ -33,6 +34,8 @@ use std::sync::ledger::Ledger;
 pub struct Decomps<'t> {
     tables: &'t Tables,
     symbols: Vec<Symbol>,
+    /// How the remainders by the last symbol's mass go on as that of the one before it is taken off.
+    strides: Strides,
     window: Window,
     /// The window of scaled masses; None where no count list has its mass in the window.
     scaled: Option<Window>,
@@ -47,6 +50,7 @@ impl<'t> Model for Decomps<'t> {
     ghost use Rattle.decompose.specs.Enumeration.{Enumeration};
     ghost use Rattle.decompose.specs.Search.{enumeration};
     ghost use Rattle.decompose.specs.Levels.{limits_of, counts_of};
+    ghost use Rattle.decompose.specs.Strides.{KnowsStrides};
     ghost use Rattle.decompose.specs.Walk.{IsWalk, given_of};
 
     ghost Value = { Enumeration };
@@ -54,7 +58,8 @@ impl<'t> Model for Decomps<'t> {
     ghost view = { λ d. enumeration d.tables.now (limits_of d.symbols.items) d.window
         (given_of d.stands (counts_of d.levels.items)) };
 
-    ghost invariant = { λ d. IsWalk d.tables.now d.symbols.items d.window d.scaled d.levels.items d.stands };
+    ghost invariant = { λ d. IsWalk d.tables.now d.symbols.items d.window d.scaled d.levels.items d.stands
+        × KnowsStrides d.symbols.items d.strides };
 }
 
 /// Whether these counts are within the limits, one for each.
@@ -91,9 +96,11 @@ impl<'t> Decomps<'t> {
             count: 0,
             left: window
         }; symbols.len()]?;
+        let strides = Strides::of_last(&symbols);
         Ok(Decomps {
             tables,
             symbols,
+            strides,
             window,
             scaled: scaled_window_of(tables, window),
             levels,
@@ -128,9 +135,11 @@ impl<'t> Decomps<'t> {
         let symbols = symbols_of(alloc, &tables.masses, tables.scale.scaled(), limits)?;
         let mut levels = levels_of(alloc, window, after.counts())?;
         let depth = stand_at(&symbols, window, &mut levels);
+        let strides = Strides::of_last(&symbols);
         Ok(Decomps {
             tables,
             symbols,
+            strides,
             window,
             scaled: scaled_window_of(tables, window),
             levels,
@@ -167,6 +176,7 @@ impl<'t> Decomps<'t> {
         if find_left(
             residues,
             &self.symbols,
+            &self.strides,
             self.window,
             self.scaled,
             self.stands,

@@ -1,7 +1,10 @@
 //! How remainders go on from count to count: what a number leaves less one and another mass, divided by a lighter
 //! mass.
-ghost use Rattle.std.specs.Prelude.{ℕ, ◌≡◌, ◌+◌, ◌-◌, ◌*◌, ◌%◌, ◌^◌, ◌<◌, ◌≤◌, ◌⊎◌};
-ghost use Rattle.decompose.specs.Strides.{AreStrides, LeapsOver};
+ghost use Rattle.std.specs.Prelude.{ℕ, ◌≡◌, ◌+◌, ◌-◌, ◌*◌, ◌%◌, ◌^◌, ◌<◌, ◌≤◌, ◌⊎◌, All};
+ghost use Rattle.decompose.specs.Levels.{IsSymbol};
+ghost use Rattle.decompose.specs.Strides.{AreStrides, AreStridesOf, KnowsStrides, LeapsOver};
+
+use crate::levels::Symbol;
 
 /// How the remainders by a mass go on as a heavier mass is taken off again and again: each is less by `fall`, or
 /// greater by what lacks from that to the mass.
@@ -24,9 +27,7 @@ impl Strides {
     /// The strides by a mass, as a heavier one is taken off.
     pub(crate) fn of(heavier: u64, mass: u64) -> Strides
         requires { 0 < mass }
-        ensures strides { AreStrides result }
-        ensures mass { result.mass ≡ mass }
-        ensures fall { result.fall ≡ heavier % mass }
+        ensures { AreStridesOf heavier mass result }
     {
         let fall = heavier % mass;
         let stride = fall.min(mass - fall);
@@ -36,6 +37,19 @@ impl Strides {
             fall,
             inverse,
         }
+    }
+
+    /// The strides by the mass of the last symbol, as that of the one before it is taken off; any where there are
+    /// fewer than two.
+    pub(crate) fn of_last(symbols: &[Symbol]) -> Strides
+        requires { All IsSymbol symbols.now }
+        ensures { KnowsStrides symbols.now result }
+    {
+        let number = symbols.len();
+        if number < 2 {
+            return Strides::of(1, 1);
+        }
+        Strides::of(symbols[number - 2].mass, symbols[number - 1].mass)
     }
 
     /// Leaps over remainders that all are above the width: how far they go down by the fall, or up by the rise,

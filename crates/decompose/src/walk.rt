@@ -8,6 +8,7 @@ ghost use Rattle.decompose.specs.Search.{is_left};
 ghost use Rattle.decompose.specs.Levels.{IsSymbol, AreLevels, window_at, masses_of, limits_of, counts_of};
 ghost use Rattle.decompose.specs.Probes.{IsScaledWindow, KnowsScaled, HasNoList};
 ghost use Rattle.decompose.specs.Numbers.{HasRoom, number_in, number_from, number_after, found_list};
+ghost use Rattle.decompose.specs.Strides.{AreStridesOf, KnowsStrides};
 ghost use Rattle.decompose.specs.Walk.{limits_from, FindsFirst, StandsAt, given_of};
 
 use crate::levels::{Level, Symbol, window_less};
@@ -37,12 +38,14 @@ fn first_low(symbols: &[Symbol]) -> u32
 fn find_in_pair(
     heavier: &Symbol,
     lighter: &Symbol,
+    strides: &Strides,
     window: Window,
     count: u32,
     levels: &mut [Level],
 ) -> bool
     requires two { length levels.old ≡ 2 }
     requires positive { 0 < lighter.now.mass }
+    requires strides { AreStridesOf heavier.now.mass lighter.now.mass strides.now }
     requires ordered { window.lo ≤ window.hi }
     ensures { FindsFirst (heavier.now ∷ lighter.now ∷ []) count window result levels.old levels.new }
 {
@@ -50,7 +53,6 @@ fn find_in_pair(
         return false;
     };
     let width = window.hi - window.lo;
-    let strides = Strides::of(heavier.mass, lighter.mass);
     let mut count = count;
     let mut hi = first.left.hi;
     let mut remainder = hi % lighter.mass;
@@ -102,6 +104,7 @@ fn find_alone(symbol: Symbol, window: Window, count: u32, levels: &mut [Level]) 
 fn find_from<L: Ledger>(
     residues: &Residues,
     symbols: &[Symbol],
+    strides: &Strides,
     window: Window,
     scaled: Window,
     count: u32,
@@ -113,6 +116,7 @@ fn find_from<L: Ledger>(
     requires ordered { window.lo ≤ window.hi }
     requires scaled { IsScaledWindow symbols.now window scaled }
     requires knows { KnowsScaled residues.now symbols.now }
+    requires strides { KnowsStrides symbols.now strides.now }
     ensures finds { FindsFirst symbols.now count window result levels.old levels.new }
     ensures steps { (most : ℕ) → HasRoom symbols.now scaled.hi most → steps.new ≤ steps.old + (most + 1) * (1 +
         length symbols.now * number_from symbols.now scaled count most (found_list result (counts_of levels.new))) }
@@ -121,7 +125,7 @@ fn find_from<L: Ledger>(
         return window.lo == 0;
     };
     if let [lighter] = below {
-        return find_in_pair(symbol, lighter, window, count, levels);
+        return find_in_pair(symbol, lighter, strides, window, count, levels);
     }
     let Some(mut level) = symbol.level_at(window, count) else {
         return false;
@@ -130,15 +134,21 @@ fn find_from<L: Ledger>(
     let mut rest = window_less(scaled, u64::from(level.count) * symbol.scaled);
     'counts: loop {
         if may_fill(residues, below, rest, steps)
-            && find_from(
-                residues,
-                below,
-                level.left,
-                rest,
-                low,
-                &mut levels[1..],
-                steps,
-            )
+            && match below {
+                [heavier, lighter] => {
+                    find_in_pair(heavier, lighter, strides, level.left, low, &mut levels[1..])
+                }
+                _ => find_from(
+                    residues,
+                    below,
+                    strides,
+                    level.left,
+                    rest,
+                    low,
+                    &mut levels[1..],
+                    steps,
+                ),
+            }
         {
             levels[0] = level;
             return true;
@@ -155,6 +165,7 @@ fn find_from<L: Ledger>(
 fn find_below<L: Ledger>(
     residues: &Residues,
     symbols: &[Symbol],
+    strides: &Strides,
     window: Window,
     scaled: Window,
     count: u32,
@@ -167,6 +178,7 @@ fn find_below<L: Ledger>(
     requires ordered { window.lo ≤ window.hi }
     requires scaled { 3 ≤ length symbols.now → IsScaledWindow symbols.now window scaled }
     requires knows { KnowsScaled residues.now symbols.now }
+    requires strides { KnowsStrides symbols.now strides.now }
     ensures finds { FindsFirst symbols.now count window result levels.old levels.new }
     ensures steps { (w : Window) → (3 ≤ length symbols.now → scaled ≡ w) → (most : ℕ) → HasRoom symbols.now w.hi most →
         steps.new ≤ steps.old + (most + 1) * (1 + length symbols.now
@@ -174,8 +186,10 @@ fn find_below<L: Ledger>(
 {
     match symbols.len() {
         1 => find_alone(symbols[0], window, count, levels),
-        2 => find_in_pair(&symbols[0], &symbols[1], window, count, levels),
-        _ => find_from(residues, symbols, window, scaled, count, levels, steps),
+        2 => find_in_pair(&symbols[0], &symbols[1], strides, window, count, levels),
+        _ => find_from(
+            residues, symbols, strides, window, scaled, count, levels, steps,
+        ),
     }
 }
 
@@ -184,6 +198,7 @@ fn find_below<L: Ledger>(
 fn find_first<L: Ledger>(
     residues: &Residues,
     symbols: &[Symbol],
+    strides: &Strides,
     window: Window,
     scaled: Window,
     levels: &mut [Level],
@@ -194,6 +209,7 @@ fn find_first<L: Ledger>(
     requires ordered { window.lo ≤ window.hi }
     requires scaled { IsScaledWindow symbols.now window scaled }
     requires knows { KnowsScaled residues.now symbols.now }
+    requires strides { KnowsStrides symbols.now strides.now }
     requires some { 1 ≤ length symbols.now }
     ensures steps { (most : ℕ) → HasRoom symbols.now scaled.hi most → steps.new ≤ steps.old + length symbols.now
         * (most + 1) * (number_in symbols.now scaled most (found_list result (counts_of levels.new)) + 1) }
@@ -204,7 +220,9 @@ fn find_first<L: Ledger>(
         × (levels.new ≡ levels.old)) }
 {
     let low = first_low(symbols);
-    find_from(residues, symbols, window, scaled, low, levels, steps)
+    find_from(
+        residues, symbols, strides, window, scaled, low, levels, steps,
+    )
 }
 
 /// What the levels before this one leave of the window.
@@ -227,6 +245,7 @@ fn window_at(window: Window, levels: &[Level], place: usize) -> Window
 fn find_next<L: Ledger>(
     residues: &Residues,
     symbols: &[Symbol],
+    strides: &Strides,
     window: Window,
     scaled: Window,
     depth: usize,
@@ -238,6 +257,7 @@ fn find_next<L: Ledger>(
     requires ordered { window.lo ≤ window.hi }
     requires scaled { IsScaledWindow symbols.now window scaled }
     requires knows { KnowsScaled residues.now symbols.now }
+    requires strides { KnowsStrides symbols.now strides.now }
     requires stands { StandsAt symbols.now window levels.old depth }
     requires in_box { IsInBox (limits_of symbols.now) (counts_of levels.old) }
     ensures steps { (most : ℕ) → HasRoom symbols.now scaled.hi most → steps.new ≤ steps.old + length symbols.now
@@ -253,12 +273,17 @@ fn find_next<L: Ledger>(
     let mut place = depth;
     while 0 < place {
         place -= 1;
+        // Most often one more of the symbol is above what is left, which is known at once.
+        if levels[place].raised(symbols[place]).is_none() {
+            continue;
+        }
         let left = window_at(window, levels, place);
         let rest = scaled_at(symbols, levels, scaled, place);
         let count = levels[place].count + 1;
         if find_below(
             residues,
             &symbols[place..],
+            strides,
             left,
             rest,
             count,
@@ -277,6 +302,7 @@ fn find_next<L: Ledger>(
 pub(crate) fn find_left<L: Ledger>(
     residues: &Residues,
     symbols: &[Symbol],
+    strides: &Strides,
     window: Window,
     scaled: Option<Window>,
     stands: Option<usize>,
@@ -288,6 +314,7 @@ pub(crate) fn find_left<L: Ledger>(
     requires ordered { window.lo ≤ window.hi }
     requires scaled { MatchOption scaled (HasNoList symbols.now window) (IsScaledWindow symbols.now window) }
     requires knows { KnowsScaled residues.now symbols.now }
+    requires strides { KnowsStrides symbols.now strides.now }
     requires some { 1 ≤ length symbols.now }
     requires stands { IfSome stands (StandsAt symbols.now window levels.old) }
     requires in_box { IfSome (given_of stands (counts_of levels.old)) (IsInBox (limits_of symbols.now)) }
@@ -305,8 +332,10 @@ pub(crate) fn find_left<L: Ledger>(
         return false;
     };
     match stands {
-        None => find_first(residues, symbols, window, scaled, levels, steps),
-        Some(depth) => find_next(residues, symbols, window, scaled, depth, levels, steps),
+        None => find_first(residues, symbols, strides, window, scaled, levels, steps),
+        Some(depth) => find_next(
+            residues, symbols, strides, window, scaled, depth, levels, steps,
+        ),
     }
 }
 

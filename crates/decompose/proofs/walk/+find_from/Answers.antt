@@ -1,4 +1,4 @@
-use Rattle.std.proofs.Common.{◌≡◌, length, suc, refl, ◌∙◌, ap, None, inl, inr, length-take, length-drop, arith, rules}
+use Rattle.std.proofs.Common.{◌≡◌, ◌<◌, length, suc, refl, sym, ◌∙◌, ap, true, false, None, inl, inr, length-take, length-drop, arith, rules}
 use Rattle.std.specs.List.{find}
 use Rattle.decompose.specs.CountLists.{box_of}
 use Rattle.decompose.specs.Search.{is_left}
@@ -6,11 +6,12 @@ use Rattle.decompose.specs.Levels.{masses_of, limits_of}
 use Rattle.decompose.proofs.ChargedSteps.{count_done, count_found, counts_done, found_in}
 use Rattle.decompose.proofs.CountedLists.{room_below}
 use Rattle.decompose.proofs.FirstOfSlice.{put_first, put_back}
-use Rattle.decompose.proofs.ProbeSteps.{knows_below, scaled_below, none_without, less_more, scaled_fits, level_fits}
+use Rattle.decompose.proofs.ProbeSteps.{no_symbol, knows_below, scaled_below, none_without, less_more, scaled_fits, level_fits}
+use Rattle.decompose.proofs.StridesOfSymbols.{strides_below}
 use Rattle.decompose.proofs.WalkSteps.{walk_begins_not, walk_finds, walk_goes_on, walk_ends}
-use Rattle.decompose.proofs.WalkSteps.{level_ordered, empty_found}
+use Rattle.decompose.proofs.WalkSteps.{level_ordered, empty_found, first_is, first_is_none, pair_finds}
 use Rattle.decompose.proofs.walk.+find_from.Goals.{else-may_fill-via-then-may_fill+else-find_from}
-use Rattle.decompose.proofs.walk.+find_from.Goals.{else-may_fill-via-else-may_fill}
+use Rattle.decompose.proofs.walk.+find_from.Goals.{else-may_fill-via-else-may_fill, in-len2, in_default-below-2}
 use Rattle.decompose.proofs.walk.+find_from.Goals as goal
 
 pub returns-in_default-clause-finds : goal.returns-in_default-clause-finds
@@ -50,29 +51,57 @@ find_from-requires g t c =
     let knows =
     knows_below c.args.residues.now c.in-Some.symbol.now c.in-Some.below.now
     (rw c.in-Some.ensures.cases.0 at c.requires.knows) in
+    let strides =
+    strides_below c.in-Some.symbol.now c.in-Some.below.now c.args.strides.now
+    (rw c.in-Some.ensures.cases.0 at c.requires.strides) in
     let ordered =
     level_ordered c.in-Some.symbol.now.mass c.args.window c.counts.level level c.requires.ordered in
     λ κs l. (
       search rules,
       (
         search rules,
-        (search rules, ((λ k d h. symbols (suc k) d (omega arith)), (ordered, (scaled, knows)))),
+        (search rules, ((λ k d h. symbols (suc k) d (omega arith)), (ordered, (scaled, (knows, strides))))),
       ),
     )
 
 pub returns-then-find_from-clause-finds : goal.returns-then-find_from-clause-finds
 returns-then-find_from-clause-finds g t c =
-    let found = rw c.first_low-low.ensures at c.if-find_from.ensures.finds in
     let reaches = c.counts.invariant.reaches in
-    rw (
-      put_first c.counts.levels c.find_from.new.levels c.counts.level
-          (omega (arith, simp (length-take, length-drop) at c.find_from.auto.levels))
-          (omega (arith, c.in-Some.ensures.cases.1, c.requires.one_level_each, ap length c.counts.invariant.unchanged)),
-      c.in-Some.ensures.cases.0,
-    ) (
-      walk_finds c.in-Some.symbol.now c.in-Some.below.now c.args.count c.args.window c.counts.level reaches _ found.0,
-      (reaches.is_level, found.1),
-    )
+    let some : 0 < length c.counts.levels =
+    omega (arith, c.in-Some.ensures.cases.1, c.requires.one_level_each, ap length c.counts.invariant.unchanged) in
+    elim c.if-below-lt2-2.branch [
+      | in-len2 v ↦
+          let found =
+          first_is c.in-Some.below.now c.first_low-low.result c.counts.level.left v.find_in_pair-in-len2.result _
+          v.find_in_pair-in-len2.new.levels c.first_low-low.ensures
+          (pair_finds c.in-Some.below.now no_symbol no_symbol c.first_low-low.result c.counts.level.left
+          v.find_in_pair-in-len2.result _ v.find_in_pair-in-len2.new.levels (omega arith) v.find_in_pair-in-len2.ensures)
+          (sym v.value-is ∙ c.if-find_from.true) in
+          rw (
+            v.levels-is,
+            put_first c.counts.levels v.find_in_pair-in-len2.new.levels c.counts.level
+                (omega (arith, simp (length-take, length-drop) at v.find_in_pair-in-len2.auto.levels)) some,
+            c.in-Some.ensures.cases.0,
+          ) (
+            walk_finds c.in-Some.symbol.now c.in-Some.below.now c.args.count c.args.window c.counts.level reaches _
+                found.0,
+            (reaches.is_level, found.1),
+          )
+      | in_default-below-2 v ↦
+          let found =
+          first_is c.in-Some.below.now c.first_low-low.result c.counts.level.left v.find_from.result _
+          v.find_from.new.levels c.first_low-low.ensures v.find_from.ensures.finds (sym v.value-is ∙ c.if-find_from.true) in
+          rw (
+            v.levels-is,
+            put_first c.counts.levels v.find_from.new.levels c.counts.level
+                (omega (arith, simp (length-take, length-drop) at v.find_from.auto.levels)) some,
+            c.in-Some.ensures.cases.0,
+          ) (
+            walk_finds c.in-Some.symbol.now c.in-Some.below.now c.args.count c.args.window c.counts.level reaches _
+                found.0,
+            (reaches.is_level, found.1),
+          )
+    ]
 
 pub returns-in_default-raised-clause-finds : goal.returns-in_default-raised-clause-finds
 returns-in_default-raised-clause-finds g t c =
@@ -83,9 +112,21 @@ returns-in_default-raised-clause-finds g t c =
     let none : (find (is_left (masses_of c.in-Some.below.now) c.counts.level.left None)
     (box_of (limits_of c.in-Some.below.now)) ≡ None) × (c.else-may_fill.levels ≡ c.counts.levels) =
     elim c.else-may_fill.branch [
-      | else-may_fill-via-then-may_fill+else-find_from w ↦
-          let not_found = rw c.first_low-low.ensures at w.if-find_from.ensures.finds in
-          (not_found.0, w.levels-is ∙ rw not_found.1 (put_back c.counts.levels))
+      | else-may_fill-via-then-may_fill+else-find_from w ↦ elim w.if-below-lt2-2.branch [
+        | in-len2 v ↦
+            let none_found =
+            first_is_none c.in-Some.below.now c.first_low-low.result c.counts.level.left v.find_in_pair-in-len2.result _
+            v.find_in_pair-in-len2.new.levels c.first_low-low.ensures
+            (pair_finds c.in-Some.below.now no_symbol no_symbol c.first_low-low.result c.counts.level.left
+            v.find_in_pair-in-len2.result _ v.find_in_pair-in-len2.new.levels (omega arith) v.find_in_pair-in-len2.ensures)
+            (sym v.value-is ∙ w.if-find_from.false) in
+            (none_found.0, w.levels-is ∙ v.levels-is ∙ rw none_found.1 (put_back c.counts.levels))
+        | in_default-below-2 v ↦
+            let none_found =
+            first_is_none c.in-Some.below.now c.first_low-low.result c.counts.level.left v.find_from.result _
+            v.find_from.new.levels c.first_low-low.ensures v.find_from.ensures.finds (sym v.value-is ∙ w.if-find_from.false) in
+            (none_found.0, w.levels-is ∙ v.levels-is ∙ rw none_found.1 (put_back c.counts.levels))
+      ]
       | else-may_fill-via-else-may_fill w ↦ (
         none_without c.in-Some.below.now c.counts.level.left c.counts.rest (limits_of c.in-Some.below.now) below
             w.if-may_fill.ensures.unfilled,
@@ -107,9 +148,21 @@ counts-preserved g t c =
     let none : (find (is_left (masses_of c.in-Some.below.now) c.counts.level.left None)
     (box_of (limits_of c.in-Some.below.now)) ≡ None) × (c.else-may_fill.levels ≡ c.counts.levels) =
     elim c.else-may_fill.branch [
-      | else-may_fill-via-then-may_fill+else-find_from w ↦
-          let not_found = rw c.first_low-low.ensures at w.if-find_from.ensures.finds in
-          (not_found.0, w.levels-is ∙ rw not_found.1 (put_back c.counts.levels))
+      | else-may_fill-via-then-may_fill+else-find_from w ↦ elim w.if-below-lt2-2.branch [
+        | in-len2 v ↦
+            let none_found =
+            first_is_none c.in-Some.below.now c.first_low-low.result c.counts.level.left v.find_in_pair-in-len2.result _
+            v.find_in_pair-in-len2.new.levels c.first_low-low.ensures
+            (pair_finds c.in-Some.below.now no_symbol no_symbol c.first_low-low.result c.counts.level.left
+            v.find_in_pair-in-len2.result _ v.find_in_pair-in-len2.new.levels (omega arith) v.find_in_pair-in-len2.ensures)
+            (sym v.value-is ∙ w.if-find_from.false) in
+            (none_found.0, w.levels-is ∙ v.levels-is ∙ rw none_found.1 (put_back c.counts.levels))
+        | in_default-below-2 v ↦
+            let none_found =
+            first_is_none c.in-Some.below.now c.first_low-low.result c.counts.level.left v.find_from.result _
+            v.find_from.new.levels c.first_low-low.ensures v.find_from.ensures.finds (sym v.value-is ∙ w.if-find_from.false) in
+            (none_found.0, w.levels-is ∙ v.levels-is ∙ rw none_found.1 (put_back c.counts.levels))
+      ]
       | else-may_fill-via-else-may_fill w ↦ (
         none_without c.in-Some.below.now c.counts.level.left c.counts.rest (limits_of c.in-Some.below.now) below
             w.if-may_fill.ensures.unfilled,
@@ -129,13 +182,18 @@ counts-preserved g t c =
           c.args.steps.now c.counts.steps c.may_fill.new.steps c.else-may_fill.steps c.first_low-low.result
           reaches.searched.low (c.counts.invariant.steps most room) c.may_fill.ensures.one_step
           (elim c.else-may_fill.branch [
-            | else-may_fill-via-then-may_fill+else-find_from w ↦
-                let below_steps = rw (c.counts.invariant.rest, ← w.steps-is) at w.if-find_from.ensures.steps in
-                inr (
-                  below_steps most
-                      (room_below c.in-Some.below.now c.args.scaled.hi _ most (omega arith) room.1),
-                  rw c.counts.invariant.rest at w.if-may_fill.ensures.filled,
-                )
+            | else-may_fill-via-then-may_fill+else-find_from w ↦ elim w.if-below-lt2-2.branch [
+              | in-len2 v ↦ inl (w.steps-is ∙ v.steps-is)
+              | in_default-below-2 v ↦
+                  let none : v.find_from.result ≡ false = sym v.value-is ∙ w.if-find_from.false in
+                  let here : c.else-may_fill.steps ≡ v.find_from.new.steps = w.steps-is ∙ v.steps-is in
+                  let below_steps = rw (c.counts.invariant.rest, none, ← here) at v.find_from.ensures.steps in
+                  inr (
+                    below_steps most
+                        (room_below c.in-Some.below.now c.args.scaled.hi _ most (omega arith) room.1),
+                    rw c.counts.invariant.rest at w.if-may_fill.ensures.filled,
+                  )
+            ]
             | else-may_fill-via-else-may_fill w ↦ inl w.steps-is
           ]));
     }
@@ -154,20 +212,51 @@ returns-then-find_from-clause-steps g t c most room =
     reaches.is_level in
     let room_below_here =
     room_below ss c.args.scaled.hi c.counts.rest.hi most (rw c.counts.invariant.rest (omega arith)) room_here.1 in
-    let found = rw c.first_low-low.ensures at c.if-find_from.ensures.finds in
-    let some = found_in ss c.counts.level.left c.counts.rest most _ below room_below_here found.0 in
-    rw (
-      put_first c.counts.levels c.find_from.new.levels c.counts.level
-          (omega (arith, simp (length-take, length-drop) at c.find_from.auto.levels))
-          (omega (arith, c.in-Some.ensures.cases.1, c.requires.one_level_each, ap length c.counts.invariant.unchanged)),
-      c.in-Some.ensures.cases.0,
-    ) (
-    count_found s ss c.args.scaled most room_here c.args.count c.counts.level.count c.args.steps.now c.counts.steps
-    c.may_fill.new.steps c.find_from.new.steps c.first_low-low.result reaches.searched.low
-    (c.counts.invariant.steps most room_here) c.may_fill.ensures.one_step _ fits
-    (rw c.counts.invariant.rest at (c.if-find_from.ensures.steps most room_below_here))
-    (rw c.counts.invariant.rest at some)
-    )
+    let some : 0 < length c.counts.levels =
+    omega (arith, c.in-Some.ensures.cases.1, c.requires.one_level_each, ap length c.counts.invariant.unchanged) in
+    elim c.if-below-lt2-2.branch [
+      | in-len2 v ↦
+          let found =
+          first_is c.in-Some.below.now c.first_low-low.result c.counts.level.left v.find_in_pair-in-len2.result _
+          v.find_in_pair-in-len2.new.levels c.first_low-low.ensures
+          (pair_finds c.in-Some.below.now no_symbol no_symbol c.first_low-low.result c.counts.level.left
+          v.find_in_pair-in-len2.result _ v.find_in_pair-in-len2.new.levels (omega arith) v.find_in_pair-in-len2.ensures)
+          (sym v.value-is ∙ c.if-find_from.true) in
+          let number = found_in ss c.counts.level.left c.counts.rest most _ below room_below_here found.0 in
+          rw (
+            v.levels-is,
+            v.steps-is,
+            put_first c.counts.levels v.find_in_pair-in-len2.new.levels c.counts.level
+                (omega (arith, simp (length-take, length-drop) at v.find_in_pair-in-len2.auto.levels)) some,
+            c.in-Some.ensures.cases.0,
+          ) (
+          count_found s ss c.args.scaled most room_here c.args.count c.counts.level.count c.args.steps.now
+          c.counts.steps c.may_fill.new.steps c.may_fill.new.steps c.first_low-low.result reaches.searched.low
+          (c.counts.invariant.steps most room_here) c.may_fill.ensures.one_step _ fits
+          (omega arith)
+          (rw c.counts.invariant.rest at number)
+          )
+      | in_default-below-2 v ↦
+          let found =
+          first_is c.in-Some.below.now c.first_low-low.result c.counts.level.left v.find_from.result _
+          v.find_from.new.levels c.first_low-low.ensures v.find_from.ensures.finds (sym v.value-is ∙ c.if-find_from.true) in
+          let number = found_in ss c.counts.level.left c.counts.rest most _ below room_below_here found.0 in
+          let yes : v.find_from.result ≡ true = sym v.value-is ∙ c.if-find_from.true in
+          let below_steps = rw yes at v.find_from.ensures.steps in
+          rw (
+            v.levels-is,
+            v.steps-is,
+            put_first c.counts.levels v.find_from.new.levels c.counts.level
+                (omega (arith, simp (length-take, length-drop) at v.find_from.auto.levels)) some,
+            c.in-Some.ensures.cases.0,
+          ) (
+          count_found s ss c.args.scaled most room_here c.args.count c.counts.level.count c.args.steps.now
+          c.counts.steps c.may_fill.new.steps v.find_from.new.steps c.first_low-low.result reaches.searched.low
+          (c.counts.invariant.steps most room_here) c.may_fill.ensures.one_step _ fits
+          (rw c.counts.invariant.rest at (below_steps most room_below_here))
+          (rw c.counts.invariant.rest at number)
+          )
+    ]
 
 pub returns-in_default-raised-clause-steps : goal.returns-in_default-raised-clause-steps
 returns-in_default-raised-clause-steps g t c most room =
@@ -183,12 +272,18 @@ returns-in_default-raised-clause-steps g t c most room =
     c.args.steps.now c.counts.steps c.may_fill.new.steps c.else-may_fill.steps c.first_low-low.result
     reaches.searched.low (c.counts.invariant.steps most room_here) c.may_fill.ensures.one_step
     (elim c.else-may_fill.branch [
-      | else-may_fill-via-then-may_fill+else-find_from w ↦
-          let below_steps = rw (c.counts.invariant.rest, ← w.steps-is) at w.if-find_from.ensures.steps in
-          inr (
-            below_steps most (room_below ss c.args.scaled.hi _ most (omega arith) room_here.1),
-            rw c.counts.invariant.rest at w.if-may_fill.ensures.filled,
-          )
+      | else-may_fill-via-then-may_fill+else-find_from w ↦ elim w.if-below-lt2-2.branch [
+        | in-len2 v ↦ inl (w.steps-is ∙ v.steps-is)
+        | in_default-below-2 v ↦
+            let none : v.find_from.result ≡ false = sym v.value-is ∙ w.if-find_from.false in
+            let here : c.else-may_fill.steps ≡ v.find_from.new.steps = w.steps-is ∙ v.steps-is in
+            let below_steps = rw (c.counts.invariant.rest, none, ← here) at v.find_from.ensures.steps in
+            inr (
+              below_steps most
+                  (room_below c.in-Some.below.now c.args.scaled.hi _ most (omega arith) room_here.1),
+              rw c.counts.invariant.rest at w.if-may_fill.ensures.filled,
+            )
+      ]
       | else-may_fill-via-else-may_fill w ↦ inl w.steps-is
     ]) in
     rw c.in-Some.ensures.cases.0

@@ -1,12 +1,8 @@
-use Rattle.std.proofs.Common.{◌≡◌, ℕ, false, refl, [], Option, Some, None, MatchOption}
-use Rattle.std.specs.Option.{is_some}
+use Rattle.std.proofs.Common.{ℕ, refl, []}
 use Rattle.decompose.specs.declared.levels.Symbol.{Symbol}
+use Rattle.decompose.proofs.LevelsOfSymbols.{none_of}
 use Rattle.decompose.proofs.WalkSteps.{walk_begins_not, one_found, one_none, one_written}
 use Rattle.decompose.proofs.walk.find_alone.Goals as goal
-
-none_of : {A : Type 0} {P : Type 0} (Q : A → Type 0) (o : Option A) → is_some o ≡ false → MatchOption o P Q → P
-none_of Q None e h = h
-none_of Q (Some x) e h = absurd (cc)
 
 -- the symbol with this least count
 abbrev from_count : Symbol → ℕ → Symbol

@@ -42,7 +42,7 @@ returns-in_default-raised_by c =
     let width = c.args.window.hi - c.args.window.lo in
     let none =
     leapt c.args.heavier.now c.args.lighter.now c.args.count c.args.window width c.counts.hi c.counts.remainder
-    c.of-strides.result c.leap-leap.result c.requires.positive c.of-strides.ensures.mass c.of-strides.ensures.fall
+    c.args.strides.now c.leap-leap.result c.requires.positive c.requires.strides.mass c.requires.strides.fall
     c.leap-leap.ensures.leaps c.counts.invariant.remainder c.in_default-first_by_remainder.ensures in (
       leap_ends c.args.heavier.now c.args.lighter.now c.args.count c.args.window width c.leap-leap.result.times c.counts.count
           c.counts.hi c.counts.invariant.reaches none c.in_default-raised_by.ensures,
@@ -57,17 +57,17 @@ counts-preserved c =
     let raised = c.in-Some-raised_by.ensures in
     let none =
     leapt c.args.heavier.now c.args.lighter.now c.args.count c.args.window width c.counts.hi c.counts.remainder
-    c.of-strides.result c.leap-leap.result c.requires.positive c.of-strides.ensures.mass c.of-strides.ensures.fall
+    c.args.strides.now c.leap-leap.result c.requires.positive c.requires.strides.mass c.requires.strides.fall
     c.leap-leap.ensures.leaps c.counts.invariant.remainder c.in_default-first_by_remainder.ensures in
     let over : times * m ≤ c.counts.hi = omega (arith, raised.2) in
     let behind =
     leapt_remainder c.args.heavier.now c.args.lighter.now c.args.count c.args.window width c.counts.hi c.counts.remainder
-    c.of-strides.result c.leap-leap.result c.of-strides.ensures.mass c.of-strides.ensures.fall
+    c.args.strides.now c.leap-leap.result c.requires.strides.mass c.requires.strides.fall
     c.leap-leap.ensures.leaps c.counts.invariant.remainder over in
     let one_more : c.counts.hi - times * m - m ≡ c.counts.hi - (times + 1) * m = omega arith in
     let less =
     c.remainder_less-remainder.ensures (c.counts.hi - times * m) m (omega (arith, raised.2)) behind
-    (sym c.of-strides.ensures.fall) in
+    (sym c.requires.strides.fall) in
     record {
       reaches = rw (raised.0, raised.3)
           (leap_on c.args.heavier.now c.args.lighter.now c.args.count c.args.window width times c.counts.count c.counts.hi

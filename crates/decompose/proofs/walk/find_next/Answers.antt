@@ -1,4 +1,4 @@
-use Rattle.std.proofs.Common.{◌≡◌, ℕ, ◌+◌, ◌-◌, ◌≤◌, suc, length, length-drop, drop, get_or, refl, ap, subst, arith}
+use Rattle.std.proofs.Common.{[], ◌≡◌, ℕ, ◌+◌, ◌-◌, ◌≤◌, suc, length, length-drop, drop, get_or, refl, ap, subst, arith}
 use Rattle.std.proofs.lemmas.List.{length-map, take_rest}
 use Rattle.decompose.specs.Levels.{counts_of, limits_of, window_at}
 use Rattle.decompose.specs.Probes.{scaled_at}
@@ -6,8 +6,10 @@ use Rattle.decompose.specs.Walk.{StandsAt}
 use Rattle.decompose.specs.declared.levels.Level.{Level}
 use Rattle.decompose.proofs.FirstOfSlice.{put_rest, put_rest_back}
 use Rattle.decompose.proofs.ClimbedSteps.{climb_steps_on, climb_steps_found, climbed_all, found_after, room_at}
-use Rattle.decompose.proofs.ProbeSteps.{scaled_at_place, knows_at, no_level}
-use Rattle.decompose.proofs.WalkClimbs.{climb_finds, climb_on, stands_within, window_ordered, count_below}
+use Rattle.decompose.proofs.LevelsOfSymbols.{none_of}
+use Rattle.decompose.proofs.ProbeSteps.{scaled_at_place, knows_at, no_level, no_symbol}
+use Rattle.decompose.proofs.StridesOfSymbols.{strides_at}
+use Rattle.decompose.proofs.WalkClimbs.{climb_finds, climb_on, climb_over, stands_within, window_ordered, count_below}
 use Rattle.decompose.proofs.WalkClimbs.{counts_behind}
 use Rattle.decompose.proofs.walk.find_next.Goals as goal
 
@@ -57,6 +59,12 @@ find_below-requires-clause-knows g c =
     rw (take_rest c.args.symbols.now place)
     (knows_at c.args.residues.now c.args.symbols.now place c.requires.knows)
 
+pub find_below-requires-clause-strides : goal.find_below-requires-clause-strides
+find_below-requires-clause-strides g c =
+    let place : ℕ = c.loop-place.place - 1 in
+    rw (take_rest c.args.symbols.now place)
+    (strides_at c.args.symbols.now place c.args.strides.now c.requires.strides)
+
 pub returns-then-find_below-clause-finds : goal.returns-then-find_below-clause-finds
 returns-then-find_below-clause-finds g c =
     let place : ℕ = c.loop-place.place - 1 in
@@ -67,6 +75,28 @@ returns-then-find_below-clause-finds g c =
     let found = rw (take_rest c.args.symbols.now place, c.window_at-left.ensures) at c.if-find_below.ensures.finds in
     climb_finds c.args.symbols.now c.args.window c.args.levels.now c.loop-place.levels c.find_below.new.levels place _
     c.loop-place.invariant.unchanged stands c.requires.in_box found.0 found.1
+
+pub loop-place-preserved-then-is_none : goal.loop-place-preserved-then-is_none
+loop-place-preserved-then-is_none g c =
+    let place : ℕ = c.loop-place.place - 1 in
+    let one_more : c.loop-place.place ≡ suc place = omega arith in
+    let stands =
+    subst (λ n. StandsAt c.args.symbols.now c.args.window c.loop-place.levels n) one_more c.loop-place.invariant.stands
+    in
+    let over = none_of _ c.raised.result c.if-is_none.ensures c.raised.ensures in
+    record {
+      stands = climb_on c.args.symbols.now c.args.window c.args.levels.now c.loop-place.levels [] place no_level
+          c.loop-place.invariant.unchanged stands c.requires.in_box
+          (climb_over c.args.symbols.now c.args.window c.loop-place.levels place no_level no_symbol stands over);
+      in_range = omega (arith, c.loop-place.invariant.in_range);
+      not_above = omega (arith, c.loop-place.invariant.not_above);
+      unchanged = c.loop-place.invariant.unchanged;
+      steps = λ most room.
+          climb_steps_on c.args.symbols.now c.args.window c.args.scaled c.loop-place.levels place c.args.depth most
+          c.args.steps.now c.loop-place.steps c.loop-place.steps no_level stands c.requires.scaled room
+          (omega (arith, c.loop-place.invariant.not_above)) (rw one_more at (c.loop-place.invariant.steps most room))
+          (omega arith);
+    }
 
 pub loop-place-preserved : goal.loop-place-preserved
 loop-place-preserved g c =

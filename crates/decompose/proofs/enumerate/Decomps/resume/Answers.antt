@@ -10,7 +10,7 @@ use Rattle.decompose.specs.Probes.{AreTables}
 use Rattle.decompose.specs.Walk.{StandsAt}
 use Rattle.decompose.proofs.FirstOfBox.{IsInBox-length}
 use Rattle.decompose.proofs.LevelsOfSymbols.{limits_are, length_are, counts_are}
-use Rattle.decompose.proofs.WalkKept.{IsWalk-resumed, resumed_is}
+use Rattle.decompose.proofs.WalkKept.{IsWalk-resumed, made_symbols_ok, resumed_is}
 use Rattle.decompose.proofs.enumerate.Decomps.resume.Goals as goal
 use Rattle.decompose.proofs.enumerate.Decomps.resume.Goals.{After-deref_mut, After-scaled_window_of}
 
@@ -60,6 +60,14 @@ pub stand_at-depth-requires-clause-in_box : goal.stand_at-depth-requires-clause-
 stand_at-depth-requires-clause-in_box c =
     rw (c.deref_mut.ensures.value, c.deref-2.ensures.value, limits_kept c, counts_kept c) (in_box c)
 
+pub of_last-strides-requires : goal.of_last-strides-requires
+of_last-strides-requires c =
+    let tables : AreTables c.args.tables.now c.tables.inside.scale c.tables.inside.residues =
+    rw c.tables.view_is at c.tables.invariant in
+    rw (c.deref-3.ensures.value, c.in_ok-symbols.ensures, c.deref.ensures.value, c.tables.view_is, c.scaled.ensures)
+    (made_symbols_ok c.args.tables.now c.tables.inside.scale c.tables.inside.residues c.args.limits.now tables
+    c.requires.one_limit_each c.requires.limits)
+
 -- what the levels are behind `stand_at`
 module _ (c : After-scaled_window_of) where
   now_tables : AreTables c.args.tables.now c.tables.inside.scale c.tables.inside.residues
@@ -86,13 +94,15 @@ module _ (c : After-scaled_window_of) where
   now_stands = rw c.deref-2.ensures.value at c.stand_at-depth.ensures.stands
 
 pub invariant_of-result : goal.invariant_of-result
-invariant_of-result c =
-    IsWalk-resumed c.args.tables.now c.tables.inside.scale c.tables.inside.residues c.args.limits.now c.args.window
-    c.scaled_window_of.result (now_tables c) c.requires.one_limit_each c.requires.limits c.requires.window
-    c.scaled_window_of.ensures.loses_nothing c.scaled_window_of.ensures.exact c.args.after.now
-    c.in_ok-symbols.symbols.items c.in_ok-levels.levels.items
-    c.stand_at-depth.new.levels c.in_ok-levels.levels.len c.stand_at-depth.result (now_in_box c) (now_symbols c)
-    c.in_ok-levels.levels.ok.0 (now_length c) (now_counts c) (now_stands c)
+invariant_of-result c = (
+  IsWalk-resumed c.args.tables.now c.tables.inside.scale c.tables.inside.residues c.args.limits.now c.args.window
+      c.scaled_window_of.result (now_tables c) c.requires.one_limit_each c.requires.limits c.requires.window
+      c.scaled_window_of.ensures.loses_nothing c.scaled_window_of.ensures.exact c.args.after.now
+      c.in_ok-symbols.symbols.items c.in_ok-levels.levels.items
+      c.stand_at-depth.new.levels c.in_ok-levels.levels.len c.stand_at-depth.result (now_in_box c) (now_symbols c)
+      c.in_ok-levels.levels.ok.0 (now_length c) (now_counts c) (now_stands c),
+  rw c.deref-3.ensures.value at c.of_last-strides.ensures,
+)
 
 now_resumed : (c : After-scaled_window_of) →
     enumeration c.args.tables.now (limits_of c.in_ok-symbols.symbols.items) c.args.window

@@ -4,7 +4,7 @@ use Rattle.decompose.specs.Levels.{symbols_of}
 use Rattle.decompose.specs.Probes.{AreTables}
 use Rattle.decompose.proofs.EachListOnce.{each_list, lists_rise}
 use Rattle.decompose.proofs.LevelsOfSymbols.{limits_are, length_are}
-use Rattle.decompose.proofs.WalkKept.{IsWalk-made, scaled_length}
+use Rattle.decompose.proofs.WalkKept.{IsWalk-made, made_symbols_ok, scaled_length}
 use Rattle.decompose.proofs.enumerate.Decomps.start.Goals as goal
 use Rattle.decompose.proofs.enumerate.Decomps.start.Goals.{After-scaled_window_of}
 
@@ -36,13 +36,23 @@ module _ (c : After-scaled_window_of) where
             c.requires.one_limit_each,
       )
 
+pub of_last-strides-requires : goal.of_last-strides-requires
+of_last-strides-requires c =
+    let tables : AreTables c.args.tables.now c.tables.inside.scale c.tables.inside.residues =
+    rw c.tables.view_is at c.tables.invariant in
+    rw (c.deref-2.ensures.value, c.in_ok-symbols.ensures, c.deref.ensures.value, c.tables.view_is, c.scaled.ensures)
+    (made_symbols_ok c.args.tables.now c.tables.inside.scale c.tables.inside.residues c.args.limits.now tables
+    c.requires.one_limit_each c.requires.limits)
+
 pub invariant_of-result : goal.invariant_of-result
-invariant_of-result c =
-    rw (symbols_are c)
-    (IsWalk-made c.args.tables.now c.tables.inside.scale c.tables.inside.residues c.args.limits.now c.args.window
-    c.scaled_window_of.result (tables_ok c) c.requires.one_limit_each c.requires.limits c.requires.window
-    c.scaled_window_of.ensures.loses_nothing c.scaled_window_of.ensures.exact c.in_ok-levels.levels.items None
-    (length_is c) tt tt)
+invariant_of-result c = (
+  rw (symbols_are c)
+      (IsWalk-made c.args.tables.now c.tables.inside.scale c.tables.inside.residues c.args.limits.now c.args.window
+      c.scaled_window_of.result (tables_ok c) c.requires.one_limit_each c.requires.limits c.requires.window
+      c.scaled_window_of.ensures.loses_nothing c.scaled_window_of.ensures.exact c.in_ok-levels.levels.items None
+      (length_is c) tt tt),
+  rw c.deref-2.ensures.value at c.of_last-strides.ensures,
+)
 
 pub returns-clause-start : goal.returns-clause-start
 returns-clause-start c =
