@@ -1,13 +1,16 @@
 -- The moves to children are the moves to parents taken back.
-use Rattle.std.proofs.Common.{◌≡◌, ◌≢◌, ℕ, suc, ◌+◌, ◌-◌, ◌<◌, ◌≤◌, List, length, get_or, set, take, sum, sym, ◌∙◌, ap, arith, ⊎_elim, true, eqb, ltb, get_or-set_other, get_or-set_same, length-set}
-use Rattle.std.proofs.lemmas.Bool.{and_parts, and_from, cases_lt, cases_eq, leb-true, le-leb, ltb-true, ltb-false, lt-ltb, eqb-false, ne_eqb, not-true, not_from_false}
+use Rattle.std.proofs.Common.{◌≡◌, ◌≢◌, ℕ, suc, ◌+◌, ◌-◌, ◌<◌, ◌≤◌, List, length, get_or, set, take, sum, sym, ◌∙◌, ap}
+use Rattle.std.proofs.Common.{arith, ⊎_elim, true, eqb, ltb, get_or-set_other, get_or-set_same, length-set}
+use Rattle.std.proofs.lemmas.Bool.{and_parts, and_from, cases_lt, cases_eq, leb-true, le-leb, ltb-true, ltb-false}
+use Rattle.std.proofs.lemmas.Bool.{lt-ltb, eqb-false, ne_eqb, not-true, not_from_false}
 use Rattle.std.proofs.lemmas.List.{get_or_past, get_or-take}
 use Rattle.std.proofs.Math.Seq.{take-set-lt}
 use Rattle.multinomial_bounds.specs.Weight.{one_less, one_more}
 use Rattle.multinomial_bounds.specs.Path.{first_above, atoms_above, parent_of}
 use Rattle.multinomial_bounds.proofs.PlaceLemmas.{first_place_fails}
 use Rattle.multinomial_bounds.proofs.WeightLemmas.{moved_to, one_less-one_more, in_list}
-use Rattle.multinomial_bounds.proofs.PathLemmas.{first_above_is, first_above-above, length-moved, sum-moved, one_more-one_less, atoms_above-moved, IsParentMove, IsParentMove-from}
+use Rattle.multinomial_bounds.proofs.PathLemmas.{first_above_is, first_above-above, length-moved, sum-moved}
+use Rattle.multinomial_bounds.proofs.PathLemmas.{one_more-one_less, atoms_above-moved, IsParentMove, IsParentMove-from}
 use Rattle.isotopologue_list.proofs.ParentLemmas.{parent-above, parent-below}
 use Rattle.sub_isotopologues.specs.Children.{moved, can_gain, can_lose, is_child_move}
 

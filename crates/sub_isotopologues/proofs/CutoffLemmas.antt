@@ -1,5 +1,5 @@
 -- A threshold for a product that is rounded up after each factor, taken back factor by factor.
-use Rattle.std.proofs.Common.{◌≡◌, ℕ, ◌+◌, ◌*◌, ◌<◌, ◌≤◌, List, [], ◌∷◌, length, get_or, take, fold, refl, ◌∙◌, ap, arith, All}
+use Rattle.std.proofs.Common.{◌≡◌, ℕ, ◌+◌, ◌*◌, ◌<◌, ◌≤◌, List, [], ◌∷◌, length, get_or, take, fold, refl, sym, ◌∙◌, ap, subst, arith, All}
 use Rattle.std.specs.Prelude.{◌↔◌}
 use Rattle.std.proofs.Math.Nat.{mul_comm, mul-le-mul}
 use Rattle.std.proofs.lemmas.List.{take_more, take_all}
@@ -7,11 +7,8 @@ use Rattle.std.proofs.lemmas.List.Elements.{All-head, All-tail, All-take}
 use Rattle.std.proofs.lemmas.List.Sums.{fold_push}
 use Rattle.multinomial_bounds.specs.Bounds.{certainty, ceiling_of}
 use Rattle.multinomial_bounds.proofs.BoundLemmas.{ceiling_of-le}
-use Rattle.sub_isotopologues.specs.SubIsotopologues.{product_with}
-
--- a number times bounds in order, rounded up after each
-unfoldable pub raised : ℕ → List ℕ → ℕ
-raised p bounds = fold (λ product bound. ceiling_of (product * bound) certainty) p bounds
+use Rattle.sub_isotopologues.specs.SubIsotopologues.{product_with, raised}
+use Rattle.sub_isotopologues.specs.Listings.{Listing}
 
 pub raised-once : (p h : ℕ) → p ≤ certainty → h ≤ certainty → ceiling_of (p * h) certainty ≤ certainty
 raised-once p h p_le h_le =
@@ -62,16 +59,32 @@ Cuts-more threshold after cut cut' k within all so_far factor p le =
     rw last at before in
     ((λ h. here.0 (joined.0 h)), (λ h. joined.1 (here.1 h)))
 
-pub Cuts-end : (threshold before : ℕ) (after : List ℕ) (cut cut' : ℕ) → before ≤ certainty →
-    Cuts threshold after cut 0 →
+-- the threshold of no factor
+pub Cuts-none : (threshold : ℕ) (after : List ℕ) (cut : ℕ) → Cuts threshold after cut 0 →
+    (hi : ℕ) → hi ≤ certainty → (threshold < raised hi after) ↔ (cut < hi)
+unfolding raised
+Cuts-none threshold after cut so_far hi le = so_far hi le
+
+-- the threshold of the bound that the others are multiplied with
+pub cuts_with : (threshold before : ℕ) (after : List ℕ) (cut cut' : ℕ) → before ≤ certainty →
+    ((hi : ℕ) → hi ≤ certainty → (threshold < raised hi after) ↔ (cut < hi)) →
     ((hi : ℕ) → hi ≤ certainty → (cut < ceiling_of (hi * before) certainty) ↔ (cut' < hi)) →
     (hi : ℕ) → hi ≤ certainty → (threshold < product_with before after hi) ↔ (cut' < hi)
-unfolding raised
-Cuts-end threshold before after cut cut' most so_far factor hi le =
+cuts_with threshold before after cut cut' most later factor hi le =
     let turned : ceiling_of (hi * before) certainty ≡ ceiling_of (before * hi) certainty =
     ap (λ (n : ℕ). ceiling_of n certainty) (mul_comm hi before) in
     let here : (cut < ceiling_of (before * hi) certainty) ↔ (cut' < hi) = rw turned at (factor hi le) in
     let whole : (threshold < raised (ceiling_of (before * hi) certainty) after) ↔
     (cut < ceiling_of (before * hi) certainty) =
-    so_far (ceiling_of (before * hi) certainty) (raised-once before hi most le) in
+    later (ceiling_of (before * hi) certainty) (raised-once before hi most le) in
     rw (product_with-is before after hi) ((λ h. here.0 (whole.0 h)), (λ h. whole.1 (here.1 h)))
+
+-- the same for a list, which is seen so
+pub cuts_beside : (t later above : ℕ) (own seen : Listing) → own ≡ seen → own.before ≤ certainty →
+    ((hi : ℕ) → hi ≤ certainty → (t < raised hi seen.after) ↔ (later < hi)) →
+    ((hi : ℕ) → hi ≤ certainty → (later < ceiling_of (hi * own.before) certainty) ↔ (above < hi)) →
+    (hi : ℕ) → hi ≤ certainty → (t < product_with own.before own.after hi) ↔ (above < hi)
+cuts_beside t later above own seen is most cuts factor =
+    cuts_with t own.before own.after later above most
+    (subst (λ (l : Listing). (hi : ℕ) → hi ≤ certainty → (t < raised hi l.after) ↔ (later < hi)) (sym is) cuts)
+    factor

@@ -1,5 +1,6 @@
 -- Items are their counts with the bounds of these.
-use Rattle.std.proofs.Common.{◌≡◌, ℕ, ◌+◌, ◌<◌, ◌≤◌, Bool, true, false, List, [], ◌∷◌, ◌++◌, length, map, get_or, cond, ltb, leb, refl, sym, ◌∙◌, ap, arith, All, ⊎_elim, length-append}
+use Rattle.std.proofs.Common.{◌≡◌, ℕ, ◌+◌, ◌<◌, ◌≤◌, Bool, true, false, List, [], ◌∷◌, ◌++◌, length, map, get_or, cond}
+use Rattle.std.proofs.Common.{ltb, leb, refl, sym, ◌∙◌, ap, arith, All, ⊎_elim, length-append}
 use Rattle.std.specs.Prelude.{filter, ◌&&◌}
 use Rattle.std.proofs.lemmas.Bool.{and_parts, and_cases, ltb-true, ltb-false, leb-true, leb-false}
 use Rattle.std.proofs.lemmas.List.{map-append, length-map, get_or-map}

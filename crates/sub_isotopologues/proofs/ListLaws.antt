@@ -20,13 +20,13 @@ use Rattle.multinomial_bounds.specs.Compositions.{compositions, counts_of}
 use Rattle.multinomial_bounds.proofs.CompositionLemmas.{compositions-IsCounts}
 use Rattle.multinomial_bounds.proofs.LexicographicOrder.{compositions_in_order}
 use Rattle.multinomial_bounds.proofs.BoundLemmas.{ceiling_of-le, le-ceiling_of-mul}
-use Rattle.sub_isotopologues.specs.SubIsotopologues.{SubIsotopologue, sub_isotopologue_of, stands_before, product_with}
+use Rattle.sub_isotopologues.specs.SubIsotopologues.{SubIsotopologue, sub_isotopologue_of, stands_before, product_with, raised}
 use Rattle.sub_isotopologues.specs.Children.{counts_over}
 use Rattle.sub_isotopologues.specs.Listings.{Listing, counts_above, items_of}
 use Rattle.sub_isotopologues.specs.Growth.{items_over}
 use Rattle.sub_isotopologues.proofs.ListParts.{filter_agree_on, contains_filter}
 use Rattle.sub_isotopologues.proofs.CountsOver.{compositions_distinct, Contains-compositions}
-use Rattle.sub_isotopologues.proofs.CutoffLemmas.{raised, product_with-is}
+use Rattle.sub_isotopologues.proofs.CutoffLemmas.{product_with-is}
 use Rattle.sub_isotopologues.proofs.Descent.{hi-enclosed}
 use Rattle.sub_isotopologues.proofs.ItemOrder.{stands_before-IsStrictOrder, hi-falls}
 

@@ -28,6 +28,10 @@ stands_before weights a b =
 unfoldable pub product_with : ℕ → List ℕ → ℕ → ℕ
 product_with before after hi = fold (λ product bound. ceiling_of (product * bound) certainty) before (hi ∷ after)
 
+-- a number times bounds in order, rounded up after each
+unfoldable pub raised : ℕ → List ℕ → ℕ
+raised p bounds = fold (λ product bound. ceiling_of (product * bound) certainty) p bounds
+
 -- what is asked of the bounds of the other elements: that they are above 0 and at most 1
 pub record AreOthers (before : ℕ) (after : List ℕ) : Type 0 where
   pub before_some : 1 ≤ before

@@ -28,6 +28,7 @@ mod others;
 mod sub_iso;
 mod sub_isos;
 
+pub use cutoff::cutoff_of_factor;
 pub use fault::SubFault;
 pub use grown::MAX_SUB_ISOTOPOLOGUES;
 pub use laws::sub_isotopologue_laws;

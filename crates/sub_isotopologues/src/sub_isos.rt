@@ -1,16 +1,16 @@
 //! The list of an element's subisotopologues.
-ghost use Rattle.std.specs.Prelude.{◌≡◌, ◌≤◌, ◌+◌, ◌∷◌, [], IfOk, OnOk, OnErr, IfNone, OnSome, MatchOption, All};
+ghost use Rattle.std.specs.Prelude.{◌≡◌, ◌≤◌, ◌<◌, ◌↔◌, ◌+◌, ◌∷◌, [], ℕ, IfOk, OnOk, OnErr, IfNone, OnSome, MatchOption, All};
 ghost use Rattle.std.specs.Prelude.{AllPairs, length, take};
 ghost use Rattle.reader_answers.specs.Answers.{Gives, GivesAs};
 ghost use Rattle.sub_isotopologues.specs.ListAnswers.{is_memory, within_limit, resumed};
 ghost use Rattle.multinomial_bounds.specs.Weight.{IsWeights, IsCounts, weight_of, total_of};
 ghost use Rattle.multinomial_bounds.specs.Bounds.{certainty, floor_of, ceiling_of, IsEnclosure};
 ghost use Rattle.multinomial_bounds.specs.Mode.{mode_bound};
-ghost use Rattle.sub_isotopologues.specs.SubIsotopologues.{SubIsotopologue, AreOthers};
+ghost use Rattle.sub_isotopologues.specs.SubIsotopologues.{SubIsotopologue, AreOthers, raised};
 ghost use Rattle.sub_isotopologues.specs.Listings.{Listing, listing_of, lowered, with_given, items_of, places_left};
 ghost use Rattle.sub_isotopologues.specs.Listings.{max_sub_isotopologues};
 
-use crate::cutoff::cutoff;
+use crate::cutoff::{cutoff_of_factor, cutoff_of_factors};
 use crate::fault::SubFault;
 use crate::grown::GrownItems;
 use crate::others::Others;
@@ -151,7 +151,22 @@ impl SubIsos {
         ensures older_first { OnOk result (take (length (items_of self.old)) (items_of self.new) ≡ items_of self.old) }
         ensures unchanged { OnErr result (self.new ≡ self.old) }
     {
-        let above = cutoff(self.before, &self.after, threshold);
+        let later = cutoff_of_factors(threshold, &self.after);
+        self.lower_beside(threshold, later)
+    }
+
+    /// The same as `lower_to`, where the greatest product of the elements up to this one is known that isn't above the
+    /// new threshold together with the later ones, as [`cutoff_of_factor`] gives it element by element. Lists that are
+    /// lowered together find it once for all.
+    pub fn lower_beside(&mut self, threshold: u64, later: u64) -> Result<(), SubFault>
+        requires lower { threshold ≤ self.old.threshold }
+        requires at_most_one { later ≤ certainty }
+        requires later { (hi : ℕ) → hi ≤ certainty → (threshold < raised hi self.old.after) ↔ (later < hi) }
+        ensures gives { GivesAs (λ _. self.new) is_memory result (within_limit (lowered self.old threshold)) }
+        ensures older_first { OnOk result (take (length (items_of self.old)) (items_of self.new) ≡ items_of self.old) }
+        ensures unchanged { OnErr result (self.new ≡ self.old) }
+    {
+        let above = cutoff_of_factor(later, self.before);
         self.grown.grow_to(above)?;
         self.listed = self.grown.count_above(above);
         self.threshold = threshold;

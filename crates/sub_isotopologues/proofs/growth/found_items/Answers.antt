@@ -1,7 +1,8 @@
 -- The children of the items are found in the items' order.
 use Rattle.sub_isotopologues.proofs.ChildBounds.{none_wanted}
 use Rattle.sub_isotopologues.proofs.KeptLists.{get_or_front}
-use Rattle.std.proofs.Common.{◌≡◌, ◌+◌, ◌<◌, ◌++◌, [], ℕ, Bool, true, ltb, leb, List, length, sum, get_or, sym, ◌∙◌, ap, arith, length-append, rules, refl, subst, All, ◌≤◌}
+use Rattle.std.proofs.Common.{◌≡◌, ◌+◌, ◌<◌, ◌++◌, [], ℕ, Bool, true, ltb, leb, List, length, sum, get_or, sym, ◌∙◌, ap}
+use Rattle.std.proofs.Common.{arith, length-append, rules, refl, subst, All, ◌≤◌}
 use Rattle.std.specs.Prelude.{◌&&◌}
 use Rattle.std.proofs.lemmas.List.{length-map, append-nil, take_at}
 use Rattle.std.proofs.lemmas.Result.{err_from_is_err_and}
@@ -11,7 +12,9 @@ use Rattle.multinomial_bounds.specs.Mode.{mode_of_atoms}
 use Rattle.multinomial_bounds.specs.Path.{bound_of}
 use Rattle.sub_isotopologues.specs.Children.{wanted_of, children, IsBoundUpTo}
 use Rattle.sub_isotopologues.proofs.FaultLemmas.{OnlyTooMany-weaker}
-use Rattle.sub_isotopologues.proofs.ItemLists.{counts_in, step-counts, step-is, step-items, step-inside, step-found, step-values, step-few, counts-at, lo-at, hi-at, mode_counts_at, mode_counts_are, found_first, first_few, found_last, found_below}
+use Rattle.sub_isotopologues.proofs.ItemLists.{counts_in, step-counts, step-is, step-items, step-inside, step-found}
+use Rattle.sub_isotopologues.proofs.ItemLists.{step-values, step-few, counts-at, lo-at, hi-at, mode_counts_at}
+use Rattle.sub_isotopologues.proofs.ItemLists.{mode_counts_are, found_first, first_few, found_last, found_below}
 use Rattle.sub_isotopologues.proofs.growth.found_items.Goals as goal
 use Rattle.sub_isotopologues.proofs.growth.found_items.Goals.{After-deref-in-loop-place, After-node_of-node}
 

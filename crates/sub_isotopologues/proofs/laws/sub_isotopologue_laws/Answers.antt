@@ -8,7 +8,8 @@ use Rattle.multinomial_bounds.specs.Path.{atoms_above, bound_of}
 use Rattle.sub_isotopologues.specs.SubIsotopologues.{product_with}
 use Rattle.sub_isotopologues.specs.Listings.{counts_above}
 use Rattle.sub_isotopologues.proofs.Descent.{hi-le-mode}
-use Rattle.sub_isotopologues.proofs.ListLaws.{counts_above-IsCounts, counts_above-above, Contains-counts_above, counts_above-lexicographic, counts_above-order, product_with-rises}
+use Rattle.sub_isotopologues.proofs.ListLaws.{counts_above-IsCounts, counts_above-above, Contains-counts_above}
+use Rattle.sub_isotopologues.proofs.ListLaws.{counts_above-lexicographic, counts_above-order, product_with-rises}
 use Rattle.sub_isotopologues.proofs.laws.sub_isotopologue_laws.Goals as goal
 
 pub returns-clause-members : goal.returns-clause-members
