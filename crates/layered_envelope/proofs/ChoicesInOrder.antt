@@ -1,6 +1,7 @@
 -- The choices after given places, as a filter of all: those that come after them in lexicographic order. And what is
 -- next of the last lists is next of all of them.
-use Rattle.std.proofs.Common.{◌≡◌, ℕ, zero, suc, ◌+◌, ◌-◌, ◌<◌, ◌≤◌, Bool, true, false, cond, ltb, List, [], ◌∷◌, ◌++◌, map, length, get_or, take, drop, fold, refl, sym, ◌∙◌, ap, arith, ⊎_elim, append_assoc}
+use Rattle.std.proofs.Common.{◌≡◌, ℕ, zero, suc, ◌+◌, ◌-◌, ◌<◌, ◌≤◌, Bool, true, false, cond, ltb, List, [], ◌∷◌, ◌++◌}
+use Rattle.std.proofs.Common.{map, length, get_or, take, drop, fold, refl, sym, ◌∙◌, ap, arith, ⊎_elim, append_assoc}
 use Rattle.std.specs.Prelude.{flat_map, filter}
 use Rattle.std.specs.List.{range_with_len}
 use Rattle.std.specs.Ordering.{nat_cmp, is_lt}

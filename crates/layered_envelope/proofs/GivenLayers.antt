@@ -30,10 +30,10 @@ module _ (lists : List Listing) (modes : List ℕ) (hi given : ℕ) (layers : Ar
   given-some : 0 < given
   given-some = let same : given ≡ seen.given = ap (λ l. l.given) view in omega arith
 
-  low : All (λ l. l.threshold ≤ hi / 2 ^ given) lists
+  pub low : All (λ l. l.threshold ≤ hi / 2 ^ given) lists
   low = last-low lists modes hi given layers given-some
 
-  over : hi / 2 ^ given < fold upper certainty modes
+  pub over : hi / 2 ^ given < fold upper certainty modes
   over = last-below lists modes hi given layers given-some
 
   pub given-falls : AllFall (his_of lists)
@@ -43,7 +43,7 @@ module _ (lists : List Listing) (modes : List ℕ) (hi given : ℕ) (layers : Ar
   given-threshold =
       last_is lists modes hi given layers given-some ∙ ap last_threshold view
 
-  given-places : layer_places (elements_of lists) (hi / 2 ^ given) ≡ last_places seen
+  pub given-places : layer_places (elements_of lists) (hi / 2 ^ given) ≡ last_places seen
   given-places =
       ap (layer_places (elements_of lists)) (last_is lists modes hi given layers given-some) ∙ ap last_places view
 

@@ -1,5 +1,6 @@
 -- The items of an element's list are the first of all its counts in order; those left out are not above its threshold.
-use Rattle.std.proofs.Common.{◌≡◌, ℕ, zero, suc, ◌<◌, ◌≤◌, Bool, true, false, ltb, List, [], ◌∷◌, map, length, get_or, take, fold, refl, sym, ◌∙◌, ap, arith, ⊎_elim, All}
+use Rattle.std.proofs.Common.{◌≡◌, ℕ, zero, suc, ◌<◌, ◌≤◌, Bool, true, false, ltb, List, [], ◌∷◌, map, length, get_or}
+use Rattle.std.proofs.Common.{take, fold, refl, sym, ◌∙◌, ap, arith, ⊎_elim, All}
 use Rattle.std.specs.Prelude.{filter, Contains}
 use Rattle.std.proofs.lemmas.Bool.{cases_Bool, lt-ltb, ltb-true, ltb-false, false≢true}
 use Rattle.std.proofs.lemmas.List.{length-map, get_or-map, get_or_default, take-map, map-id, get_or-take}

@@ -10,7 +10,8 @@ use Rattle.layered_envelope.specs.declared.layer_end.TheConstants.{MAX_MEMBERS}
 use Rattle.sub_isotopologues.specs.Listings.{Listing}
 use Rattle.layered_envelope.specs.LayerLists.{elements_of, kinds_of}
 use Rattle.layered_envelope.proofs.LoweredLists.{kinds-elements}
-use Rattle.layered_envelope.specs.Layerings.{Layering, last_threshold, next_threshold, are_all_given, end_within_limit, some_end, next_end, is_memory, most_steps, most_end_steps}
+use Rattle.layered_envelope.specs.Layerings.{Layering, last_threshold, next_threshold, are_all_given, end_within_limit}
+use Rattle.layered_envelope.specs.Layerings.{some_end, next_end, is_memory, most_steps, most_end_steps}
 
 module _ (l : Layering) where
   pub all_given : 0 < l.given → last_threshold l ≡ 0 → next_end l ≡ Ok None

@@ -1,5 +1,6 @@
 -- A layer by places has the isotopologues of the layer, each once.
-use Rattle.std.proofs.Common.{◌≡◌, ℕ, zero, suc, ◌+◌, ◌*◌, ◌<◌, Bool, true, false, ltb, List, [], ◌∷◌, ◌++◌, map, length, get_or, fold, refl, sym, ◌∙◌, ap, arith, ⊎_elim, All}
+use Rattle.std.proofs.Common.{◌≡◌, ℕ, zero, suc, ◌+◌, ◌*◌, ◌<◌, Bool, true, false, ltb, List, [], ◌∷◌, ◌++◌, map}
+use Rattle.std.proofs.Common.{length, get_or, fold, refl, sym, ◌∙◌, ap, arith, ⊎_elim, All}
 use Rattle.std.specs.Prelude.{flat_map, filter}
 use Rattle.std.specs.List.{range_with_len}
 use Rattle.std.specs.List.Sorted.{IsPermutation}
@@ -19,7 +20,9 @@ use Rattle.layered_envelope.specs.ChosenPlaces.{bounds_at, ArePlaces, above}
 use Rattle.layered_envelope.specs.PlacedLayers.{ordered_counts, counts_at, all_places, layer_places}
 use Rattle.layered_envelope.specs.Walks.{lower, upper}
 use Rattle.layered_envelope.proofs.ChoicesInOrder.{above-filter, flat_map_agree}
-use Rattle.layered_envelope.proofs.Rearranged.{Rearranged, joined, unmoved, IsPermutation-from, Rearranged-map, Rearranged-filter, Rearranged-flat_map, Rearranged-sorted_by, flat_map_each}
+use Rattle.layered_envelope.proofs.Rearranged.{Rearranged, joined, unmoved, IsPermutation-from, Rearranged-map}
+use Rattle.layered_envelope.proofs.Rearranged.{Rearranged-filter, Rearranged-flat_map, Rearranged-sorted_by}
+use Rattle.layered_envelope.proofs.Rearranged.{flat_map_each}
 
 map_flat_map : {A B C : Type 0} (f : B → C) (g : A → List B) (xs : List A) →
     map f (flat_map g xs) ≡ flat_map (λ x. map f (g x)) xs

@@ -2,6 +2,7 @@ pub mod NextChoice
 pub mod ChoicesInOrder
 pub mod KeptLists
 pub mod RoundedProducts
+pub mod CutoffLaws
 pub mod WalkSteps
 pub mod NextOfWalk
 pub mod Rearranged
@@ -12,6 +13,7 @@ pub mod ListedLayers
 pub mod CountedSteps
 pub mod CountedParts
 pub mod CountedLayers
+pub mod GatheredParts
 pub mod StartedLists
 pub mod PlacedLists
 pub mod LoweredLists
@@ -21,3 +23,4 @@ pub mod LayerAnswers
 pub mod PlacesOfLists
 pub mod MemberWalks
 pub mod GivenLayers
+pub mod GatheredLayers

@@ -1,5 +1,6 @@
 -- Lists that were lowered one after another.
-use Rattle.std.proofs.Common.{◌≡◌, ◌≢◌, ℕ, ◌+◌, ◌<◌, ◌≤◌, true, ltb, List, [], ◌∷◌, map, length, get_or, set, fold, Result, Ok, Err, refl, sym, ◌∙◌, ap, subst, arith, ⊎_elim, All}
+use Rattle.std.proofs.Common.{◌≡◌, ◌≢◌, ℕ, ◌+◌, ◌<◌, ◌≤◌, true, ltb, List, [], ◌∷◌, map, length, get_or, set, drop}
+use Rattle.std.proofs.Common.{fold, Result, Ok, Err, refl, sym, ◌∙◌, ap, subst, arith, ⊎_elim, All}
 use Rattle.std.specs.Prelude.{sum_by}
 use Rattle.std.proofs.lemmas.Bool.{cases_lt, lt-ltb}
 use Rattle.std.proofs.lemmas.List.{length-map, get_or-map, map-set, set-get_or, get_or-set_same, get_or-set_other, get_or_default}
@@ -20,6 +21,8 @@ use Rattle.layered_envelope.specs.Walks.{upper, his_of}
 use Rattle.layered_envelope.specs.CountedWalks.{lo_at, hi_at, places_above, counted_walk}
 use Rattle.layered_envelope.specs.Layerings.{is_memory, end_within_limit}
 use Rattle.layered_envelope.specs.LayerLists.{elements_of, modes_of, kinds_of, AreLists, IsTooLong, IsAnyTooLong}
+use Rattle.layered_envelope.specs.Cutoffs.{IsCutoff, AreCutoffs}
+use Rattle.layered_envelope.proofs.StartedLists.{modes-length}
 use Rattle.layered_envelope.proofs.ListedLayers.{sum_by-layer_places, length-layer_places, too_long, walk-layer, walk-places, hi-at, lo-at}
 
 -- lists of the same kinds
@@ -103,6 +106,20 @@ module _ (old now : List Listing) (t place : ℕ) (l item : Listing) (kinds : ki
   lowered_to below k d inside =
       same_or_l (λ x. x.threshold ≤ t) k d (omega arith) (omega (arith, l_threshold))
       (λ apart. below k d (omega arith))
+
+-- the cutoff of a list that is lowered next
+pub cutoff_at : (old now : List Listing) (t place : ℕ) (item : Listing) (cutoffs : List ℕ) →
+    kinds_of now ≡ kinds_of old → place < length now → item ≡ get_or now place item →
+    AreLists old (modes_of (elements_of old)) → AreCutoffs t (modes_of (elements_of old)) cutoffs →
+    IsCutoff t item.after (get_or cutoffs place 0)
+cutoff_at old now t place item cutoffs kinds within is are left =
+    let inside : place < length old = omega (arith, kinds-length now old kinds) in
+    let same : item.after ≡ drop (place + 1) (modes_of (elements_of old)) =
+    ap (λ (l : Listing). l.after) is
+    ∙ ap (λ (l : Listing). l.after) (kinds-at now old kinds place 0 item within)
+    ∙ are.after place item inside in
+    subst (λ bs. IsCutoff t bs (get_or cutoffs place 0)) (sym same)
+    (left.at place (omega (arith, inside, modes-length old (modes_of (elements_of old)) refl)))
 
 -- a list that is too long is one of the old ones
 pub any_too_long : (old now : List Listing) (t place : ℕ) (item : Listing) (fault : LayerFault) →

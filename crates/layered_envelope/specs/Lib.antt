@@ -6,9 +6,12 @@ pub use Rattle.sub_isotopologues.specs.SubIsotopologues
 pub use Rattle.sub_isotopologues.specs.Listings
 pub mod ChosenPlaces
 pub mod Walks
+pub mod Cutoffs
 pub mod PlacedLayers
 pub mod LayerLists
 pub mod ElementLists
 pub mod CountedWalks
 pub mod Layerings
 pub mod LayerWalks
+pub mod GatheredRows
+pub mod Gatherings

@@ -1,17 +1,20 @@
 //! Counting a layer from what the layer before it has, so that only members that are new are added.
 //!
-//! The lists are gone through from the first one on, and what is chosen of the first elements is multiplied once. Of the
-//! last list a member of the layer before is passed over by one comparison, and the bounds of a new one alone are formed.
-ghost use Rattle.std.specs.Prelude.{◌≡◌, ◌+◌, ◌*◌, ◌<◌, ◌≤◌, ◌∷◌, [], All, IfOk, OnErr, fold, length};
+//! The lists are gone through from the first one on, and what is chosen of the first elements is multiplied once and held
+//! against what the threshold leaves for it. Of the last list a member of the layer before is passed over by one
+//! comparison, and the bounds of a new one alone are formed.
+ghost use Rattle.std.specs.Prelude.{◌≡◌, ◌+◌, ◌*◌, ◌<◌, ◌≤◌, ◌∷◌, [], IfOk, OnErr, fold, length};
 ghost use Rattle.std.specs.Bool.{OnTrue, OnFalse};
 ghost use Rattle.multinomial_bounds.specs.Bounds.{certainty};
+ghost use Rattle.layered_envelope.specs.Cutoffs.{AreCutoffs};
 ghost use Rattle.layered_envelope.specs.ChosenPlaces.{AllFall, firsts};
 ghost use Rattle.layered_envelope.specs.Walks.{lower, upper, his_of};
 ghost use Rattle.layered_envelope.specs.CountedWalks.{counted_walk, members_above, with_member, Adds, Fits, IsCounted};
 
+use crate::cutoffs::passes;
 use crate::fault::LayerFault;
 use crate::layer_end::{LayerEnd, MAX_MEMBERS};
-use crate::walk::{exceeds, is_above};
+use crate::walk::exceeds;
 use multinomial_bounds::{Enclosure, times};
 use outside_ports::Steps;
 use std::sync::ledger::Ledger;
@@ -20,15 +23,14 @@ use sub_isotopologues::SubIsos;
 /// The layer of a threshold, from what the layer before it has.
 pub(crate) fn count_members<L: Ledger>(
     lists: &[SubIsos],
-    modes: &[u64],
+    cutoffs: &[u64],
     threshold: u64,
     last: LayerEnd,
     steps: &mut Steps<L>,
 ) -> Result<LayerEnd, LayerFault>
     requires falling { AllFall (his_of lists.now) }
-    requires modes { modes.now ≡ firsts (his_of lists.now) }
-    requires at_most_one { All (λ hi. hi ≤ certainty) modes.now }
-    requires above { threshold < fold upper certainty modes.now }
+    requires cutoffs { AreCutoffs threshold (firsts (his_of lists.now)) cutoffs.now }
+    requires above { threshold < fold upper certainty (firsts (his_of lists.now)) }
     requires last { IsCounted lists.now last }
     requires fits { Fits last }
     requires lower { threshold ≤ last.threshold }
@@ -40,7 +42,7 @@ pub(crate) fn count_members<L: Ledger>(
 {
     let certain = Enclosure::certain();
     let mut end = last;
-    if !count_chosen(lists, modes, threshold, certain, certain, &mut end, steps) {
+    if !count_chosen(lists, cutoffs, threshold, certain, certain, &mut end, steps) {
         return Err(LayerFault::TooMany { threshold });
     }
     Ok(LayerEnd { threshold, ..end })
@@ -51,7 +53,7 @@ pub(crate) fn count_members<L: Ledger>(
 #[cycle(counting)]
 fn count_chosen<L: Ledger>(
     lists: &[SubIsos],
-    modes: &[u64],
+    cutoffs: &[u64],
     threshold: u64,
     before: Enclosure,
     item: Enclosure,
@@ -59,9 +61,8 @@ fn count_chosen<L: Ledger>(
     steps: &mut Steps<L>,
 ) -> bool
     requires falling { AllFall (his_of lists.now) }
-    requires modes { modes.now ≡ firsts (his_of lists.now) }
-    requires at_most_one { All (λ hi. hi ≤ certainty) modes.now }
-    requires above { threshold < fold upper (upper before.hi item.hi) modes.now }
+    requires cutoffs { AreCutoffs threshold (firsts (his_of lists.now)) cutoffs.now }
+    requires above { threshold < fold upper (upper before.hi item.hi) (firsts (his_of lists.now)) }
     requires fits { Fits end.old }
     requires lower { threshold ≤ end.old.threshold }
     ensures fits { OnTrue result (Fits end.new) }
@@ -82,7 +83,7 @@ fn count_chosen<L: Ledger>(
             count_items(
                 list,
                 later,
-                &modes[1..],
+                cutoffs,
                 threshold,
                 times(before, item),
                 end,
@@ -97,15 +98,14 @@ fn count_chosen<L: Ledger>(
 fn count_items<L: Ledger>(
     list: &SubIsos,
     later: &[SubIsos],
-    later_modes: &[u64],
+    cutoffs: &[u64],
     threshold: u64,
     before: Enclosure,
     end: &mut LayerEnd,
     steps: &mut Steps<L>,
 ) -> bool
     requires falling { AllFall (his_of (list.now ∷ later.now)) }
-    requires modes { later_modes.now ≡ firsts (his_of later.now) }
-    requires at_most_one { All (λ hi. hi ≤ certainty) later_modes.now }
+    requires cutoffs { AreCutoffs threshold (firsts (his_of (list.now ∷ later.now))) cutoffs.now }
     requires above { threshold < fold upper before.hi (firsts (his_of (list.now ∷ later.now))) }
     requires fits { Fits end.old }
     requires lower { threshold ≤ end.old.threshold }
@@ -123,12 +123,14 @@ fn count_items<L: Ledger>(
     if later.is_empty() {
         return count_last(list, threshold, before, end, steps);
     }
+    let cutoff = cutoffs[0];
+    let later_cutoffs = &cutoffs[1..];
     for choice in list.items() {
         let item = choice.enclosure();
-        if !is_above(before.hi, item.hi, later_modes, threshold, steps) {
+        if !passes(before.hi, item.hi, cutoff, steps) {
             return true;
         }
-        if !count_chosen(later, later_modes, threshold, before, item, end, steps) {
+        if !count_chosen(later, later_cutoffs, threshold, before, item, end, steps) {
             return false;
         }
     }

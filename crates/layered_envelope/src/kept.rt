@@ -1,7 +1,8 @@
 //! Lists of items that are kept from one formula to the next.
 //!
 //! An element's items depend on nothing but its weights and how many atoms of it there are, and the formulas of one mass
-//! have few different pairs of these. So a list that was grown for one formula serves each later one with the same pair.
+//! have few different pairs of these, those of all masses up to 1,000 Da some hundreds. So a list that was grown for one
+//! formula serves each later one with the same pair.
 ghost use Rattle.std.specs.Prelude.{◌≡◌, ◌+◌, ◌≤◌, ℕ, None, IfOk, IfSome, OnOk, length, slice_index_or};
 ghost use Rattle.std.specs.Bool.{OnTrue};
 ghost use Rattle.layered_envelope.specs.ElementLists.{IsPlaceOf};
@@ -65,8 +66,27 @@ impl GrownLists {
         Some(list)
     }
 
-    /// Keeps a list. It is dropped where one of as many atoms of the element is kept, and without room or memory for it.
+    /// Keeps a list. It is dropped where one of as many atoms of the element is kept, where it alone is longer than all
+    /// that may be kept, and without memory for it. Where there is no room beside the others, those are dropped.
     pub(crate) fn keep(&mut self, list: SubIsos) {
+        let most_needed = list.atoms() as usize + 1 + list.kept_items();
+        if most_needed > MAX_KEPT {
+            return;
+        }
+        if most_needed > self.room {
+            self.clear();
+        }
+        self.put(list);
+    }
+
+    /// Drops all lists.
+    fn clear(&mut self) {
+        self.elements.clear();
+        self.room = MAX_KEPT;
+    }
+
+    /// Puts a list in its place, if there is room for it.
+    fn put(&mut self, list: SubIsos) {
         let Ok(place) = place_or_new(&mut self.elements, list.weights()) else {
             return;
         };

@@ -18,6 +18,8 @@ use sub_isotopologues::SubIsos;
 pub struct Layers {
     pub(crate) lists: Vec<SubIsos>,
     pub(crate) modes: Vec<u64>,
+    /// For each element what the threshold of the layer given last leaves for those up to it.
+    pub(crate) cutoffs: Vec<u64>,
     /// The upper bound of the isotopologue of all modes.
     pub(crate) mode_hi: u64,
     pub(crate) given: u32,
@@ -26,6 +28,7 @@ pub struct Layers {
 }
 
 impl Model for Layers {
+    ghost use Rattle.std.specs.Prelude.{◌≡◌, length};
     ghost use Rattle.layered_envelope.specs.LayerLists.{elements_of, AreLayers, IsLast};
     ghost use Rattle.layered_envelope.specs.Layerings.{Layering};
 
@@ -34,7 +37,8 @@ impl Model for Layers {
     ghost view = { λ l. record { elements = elements_of l.lists.items; given = l.given } };
 
     ghost invariant = { λ l. AreLayers l.lists.items l.modes.items l.mode_hi l.given
-        × IsLast (elements_of l.lists.items) l.mode_hi l.given l.last };
+        × IsLast (elements_of l.lists.items) l.mode_hi l.given l.last
+        × (length l.cutoffs.items ≡ length l.modes.items) };
 }
 
 impl Layers {
@@ -64,10 +68,12 @@ impl Layers {
     {
         let mut lists = take_lists(alloc, elements, kept)?;
         let modes = modes_of(alloc, &lists)?;
+        let cutoffs = vec![in alloc; 0; modes.len()]?;
         let mode_hi = restart_lists(&mut lists, &modes)?;
         Ok(Layers {
             lists,
             modes,
+            cutoffs,
             mode_hi,
             given: 0,
             last: LayerEnd::empty(mode_hi),
@@ -99,7 +105,14 @@ impl Layers {
             return Ok(None);
         }
         let threshold = self.mode_hi >> (self.given + 1);
-        let end = next_end(&mut self.lists, &self.modes, threshold, self.last, steps)?;
+        let end = next_end(
+            &mut self.lists,
+            &self.modes,
+            &mut self.cutoffs,
+            threshold,
+            self.last,
+            steps,
+        )?;
         self.given += 1;
         self.last = end;
         Ok(Some(end))

@@ -21,7 +21,9 @@
 #![tactic(auto)]
 
 mod counting;
+mod cutoffs;
 mod fault;
+mod gathering;
 mod kept;
 mod layer_end;
 mod layers;
@@ -32,6 +34,7 @@ mod places;
 mod walk;
 
 pub use fault::{LayerFault, MemberFault};
+pub use gathering::MemberRow;
 pub use isotopologue_sets::ElementAtoms;
 pub use kept::GrownLists;
 pub use layer_end::{LayerEnd, MAX_MEMBERS};

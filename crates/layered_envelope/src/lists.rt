@@ -8,11 +8,13 @@ ghost use Rattle.sub_isotopologues.specs.Listings.{Listing, items_of, lowered};
 ghost use Rattle.layered_envelope.specs.ChosenPlaces.{AllFall};
 ghost use Rattle.layered_envelope.specs.Walks.{upper, his_of, places_of, IsWalk};
 ghost use Rattle.layered_envelope.specs.CountedWalks.{Fits, IsCounted};
+ghost use Rattle.layered_envelope.specs.Cutoffs.{IsCutoff, AreCutoffs};
 ghost use Rattle.layered_envelope.specs.LayerLists.{elements_of, modes_of, kinds_of, AreLists, AreStarted, IsTooLong, IsAnyTooLong};
 ghost use Rattle.layered_envelope.specs.declared.fault.LayerFault.TheVariants.{Memory};
 ghost use Rattle.layered_envelope.specs.Layerings.{is_memory, end_within_limit};
 
 use crate::counting::count_members;
+use crate::cutoffs::find_cutoffs;
 use crate::fault::LayerFault;
 use crate::kept::GrownLists;
 use crate::layer_end::{LayerEnd, MAX_MEMBERS};
@@ -90,14 +92,16 @@ pub(crate) fn restart_lists(lists: &mut [SubIsos], modes: &[u64]) -> Result<u64,
     Ok(before)
 }
 
-/// Lowers a list; the fault is that of a layer.
-fn lower_list(list: &mut SubIsos, threshold: u64) -> Result<(), LayerFault>
-    requires { threshold ≤ list.old.threshold }
+/// Lowers a list, for which the threshold leaves a cutoff; the fault is that of a layer.
+fn lower_list(list: &mut SubIsos, threshold: u64, cutoff: u64) -> Result<(), LayerFault>
+    requires lower { threshold ≤ list.old.threshold }
+    requires at_most_one { cutoff ≤ certainty }
+    requires cutoff { IsCutoff threshold list.old.after cutoff }
     ensures ok { OnOk result (list.new ≡ lowered list.old threshold) }
     ensures err { OnErr result (list.new ≡ list.old) }
     ensures too_many { IfErr result (IsTooLong (lowered list.old threshold)) }
 {
-    match list.lower_to(threshold) {
+    match list.lower_beside(threshold, cutoff) {
         Ok(()) => Ok(()),
         Err(SubFault::TooMany) => Err(LayerFault::TooMany { threshold }),
         Err(_) => Err(LayerFault::Memory),
@@ -106,8 +110,11 @@ fn lower_list(list: &mut SubIsos, threshold: u64) -> Result<(), LayerFault>
 
 /// Lowers the lists to a threshold, one after another, up to the first that can't be: what was lowered stays so, which
 /// changes no layer of a greater threshold.
-fn lower_lists(lists: &mut [SubIsos], threshold: u64) -> Result<(), LayerFault>
-    requires { All (λ l. threshold ≤ l.threshold) lists.old }
+fn lower_lists(lists: &mut [SubIsos], cutoffs: &[u64], threshold: u64) -> Result<(), LayerFault>
+    requires lower { All (λ l. threshold ≤ l.threshold) lists.old }
+    requires lists { AreLists lists.old (modes_of (elements_of lists.old)) }
+    requires cutoffs { AreCutoffs threshold (modes_of (elements_of lists.old)) cutoffs.now }
+    requires at_most_one { All (λ cutoff. cutoff ≤ certainty) cutoffs.now }
     ensures kinds { kinds_of lists.new ≡ kinds_of lists.old }
     ensures at_least { All (λ l. threshold ≤ l.threshold) lists.new }
     ensures at_most { (k : ℕ) (d : Listing) → k < length lists.old →
@@ -116,7 +123,7 @@ fn lower_lists(lists: &mut [SubIsos], threshold: u64) -> Result<(), LayerFault>
     ensures too_long { IfErr result (IsAnyTooLong threshold lists.old) }
 {
     for place in 0..lists.len() {
-        lower_list(&mut lists[place], threshold)?;
+        lower_list(&mut lists[place], threshold, cutoffs[place])?;
     }
     Ok(())
 }
@@ -140,11 +147,13 @@ pub(crate) fn first_choices(alloc: Global, lists: &[SubIsos]) -> Result<Vec<Choi
 pub(crate) fn next_end<L: Ledger>(
     lists: &mut [SubIsos],
     modes: &[u64],
+    cutoffs: &mut [u64],
     threshold: u64,
     last: LayerEnd,
     steps: &mut Steps<L>,
 ) -> Result<LayerEnd, LayerFault>
     requires lists { AreLists lists.old modes.now }
+    requires cutoffs { length cutoffs.old ≡ length modes.now }
     requires lower { All (λ l. threshold ≤ l.threshold) lists.old }
     requires below { threshold < fold upper certainty modes.now }
     requires last { (new : List Listing) → kinds_of new ≡ kinds_of lists.old →
@@ -163,6 +172,7 @@ pub(crate) fn next_end<L: Ledger>(
     ensures steps_at_limit { OnErr result (steps.new ≤ steps.old + 2 * length lists.old * (MAX_MEMBERS + 1)) }
     ensures no_steps { result ≡ Err Memory → steps.new ≡ steps.old }
 {
-    lower_lists(lists, threshold)?;
-    count_members(lists, modes, threshold, last, steps)
+    find_cutoffs(modes, threshold, cutoffs);
+    lower_lists(lists, cutoffs, threshold)?;
+    count_members(lists, cutoffs, threshold, last, steps)
 }

@@ -1,5 +1,6 @@
 //! A walk over the choices of one item in each element's list.
-ghost use Rattle.std.specs.Prelude.{◌≡◌, ◌+◌, ◌-◌, ◌*◌, ◌^◌, ◌∷◌, ◌++◌, ◌<◌, ◌≤◌, ◌↔◌, [], All, IsTrue, MatchBool, MatchOption, drop, fold, length, map, replicate, slice_index, slice_index_or, take};
+ghost use Rattle.std.specs.Prelude.{◌≡◌, ◌+◌, ◌-◌, ◌*◌, ◌^◌, ◌∷◌, ◌++◌, ◌<◌, ◌≤◌, ◌↔◌, [], All, IsTrue, MatchBool};
+ghost use Rattle.std.specs.Prelude.{MatchOption, drop, fold, length, map, replicate, slice_index, slice_index_or, take};
 ghost use Rattle.multinomial_bounds.specs.Bounds.{certainty};
 ghost use Rattle.sub_isotopologues.specs.SubIsotopologues.{SubIsotopologue};
 ghost use Rattle.sub_isotopologues.specs.Listings.{Listing, items_of};

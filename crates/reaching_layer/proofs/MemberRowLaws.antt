@@ -1,5 +1,6 @@
 -- The counts of a member, one element after another, and members by their rows.
-use Rattle.std.proofs.Common.{◌≡◌, ℕ, ◌+◌, ◌*◌, ◌<◌, ◌≤◌, List, [], ◌∷◌, ◌++◌, length, get_or, map, sum, take, drop, refl, sym, ◌∙◌, ap, arith, All, append_assoc, append-nil, length-append}
+use Rattle.std.proofs.Common.{◌≡◌, ℕ, ◌+◌, ◌*◌, ◌<◌, ◌≤◌, List, [], ◌∷◌, ◌++◌, length, get_or, map, sum, take, drop}
+use Rattle.std.proofs.Common.{refl, sym, ◌∙◌, ap, arith, All, append_assoc, append-nil, length-append}
 use Rattle.std.specs.List.{concat}
 use Rattle.std.proofs.Math.Seq.{take-add, take-append_seam, drop-append_seam}
 use Rattle.std.proofs.lemmas.List.{length-map, length-take, get_or-map, take_more, take_all}
@@ -9,7 +10,7 @@ use Rattle.multinomial_bounds.proofs.CompositionLemmas.{sum-cons}
 use Rattle.multinomial_bounds.specs.Isotopologue.{Element, IsIsotopologue}
 use Rattle.isotopologue_sets.specs.Covers.{Member}
 use Rattle.isotopologue_list.proofs.FlatLemmas.{map_map}
-use Rattle.reaching_layer.specs.declared.members.Row.{Row}
+use Rattle.layered_envelope.specs.declared.gathering.MemberRow.{MemberRow}
 use Rattle.reaching_layer.specs.CountsByElement.{counts_by_element}
 use Rattle.reaching_layer.specs.MemberRows.{row_counts, row_member}
 
@@ -37,13 +38,6 @@ counts_by_element-concat (row ∷ rows) rest =
     ap (drop (length row)) joined ∙ drop-append_seam row (concat rows ++ rest) in
     rw (first, others, counts_by_element-concat rows rest) refl
 
--- the counts of one element more
-pub concat_more : (rows : List (List ℕ)) (element : ℕ) (row : List ℕ) → element < length rows → row ≡ get_or rows element row →
-    concat (take (element + 1) rows) ≡ concat (take element rows) ++ row
-concat_more rows element row within is =
-    ap concat (take_more rows element row within) ∙ concat-append (take element rows) (get_or rows element row ∷ [])
-    ∙ ap (λ xs. concat (take element rows) ++ xs) (append-nil (get_or rows element row) ∙ sym is)
-
 length-concat : (rows : List (List ℕ)) → length (concat rows) ≡ sum (map length rows)
 length-concat [] = refl
 length-concat (row ∷ rows) =
@@ -60,29 +54,29 @@ lengths-IsIsotopologue (e ∷ es) (counts ∷ more) is =
 -- ---- members by their rows
 
 module _ (isotopes counts : List ℕ) where
-  pub row_member-counts : (row : Row) → concat (row_member isotopes counts row).counts ≡ row_counts counts (sum isotopes) row
+  pub row_member-counts : (row : MemberRow) → concat (row_member isotopes counts row).counts ≡ row_counts counts (sum isotopes) row
   unfolding row_member
   row_member-counts row =
       concat-counts_by_element isotopes (row_counts counts (sum isotopes) row)
       ∙ take_twice (sum isotopes) (drop row.start counts)
 
-  module _ (rows : List Row) (members : List Member) (view : map (row_member isotopes counts) rows ≡ members) where
+  module _ (rows : List MemberRow) (members : List Member) (view : map (row_member isotopes counts) rows ≡ members) where
     pub length-members : length members ≡ length rows
     length-members = ap length (sym view) ∙ length-map rows (row_member isotopes counts)
 
-    pub member_at : (k : ℕ) (d : Member) (r : Row) → k < length members →
+    pub member_at : (k : ℕ) (d : Member) (r : MemberRow) → k < length members →
         get_or members k d ≡ row_member isotopes counts (get_or rows k r)
     member_at k d r within =
         ap (λ ms. get_or ms k d) (sym view)
         ∙ get_or-map (row_member isotopes counts) rows k r d (omega (arith, length-members))
 
-    pub members_lo : map (λ m. m.lo) members ≡ map (λ (r : Row). r.enclosure.lo) rows
+    pub members_lo : map (λ m. m.lo) members ≡ map (λ (r : MemberRow). r.enclosure.lo) rows
     unfolding row_member
     members_lo =
         ap (map (λ (m : Member). m.lo)) (sym view)
         ∙ map_map (λ (m : Member). m.lo) (row_member isotopes counts) rows
 
-    pub members_hi : map (λ m. m.hi) members ≡ map (λ (r : Row). r.enclosure.hi) rows
+    pub members_hi : map (λ m. m.hi) members ≡ map (λ (r : MemberRow). r.enclosure.hi) rows
     unfolding row_member
     members_hi =
         ap (map (λ (m : Member). m.hi)) (sym view)

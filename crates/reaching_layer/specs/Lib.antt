@@ -5,8 +5,8 @@ pub use Rattle.isotopologue_sets.specs.Layers
 pub use Rattle.isotopologue_sets.specs.Coverage
 pub use Rattle.isotopologue_sets.specs.Covers
 pub use Rattle.layered_envelope.specs.Layerings
+pub use Rattle.layered_envelope.specs.GatheredRows
 pub mod LayerAnswers
 pub mod CountsByElement
 pub mod Searches
 pub mod MemberRows
-pub mod GatheredRows

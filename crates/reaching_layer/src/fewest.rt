@@ -3,7 +3,7 @@
 ghost use Rattle.std.specs.Prelude.{◌≡◌, length, sum, sum_by, take};
 ghost use Rattle.isotopologue_sets.specs.Covers.{fewest};
 
-use crate::members::Row;
+use layered_envelope::MemberRow;
 
 /// The least number of bounds, from the first on, that total at least the coverage, and the number of all where
 /// even these don't.
@@ -23,7 +23,7 @@ pub(crate) fn fewest(bounds: &[u64], coverage: u64) -> usize
 
 /// The least number of rows, from the first on, whose lower bounds total at least the coverage, and the number of all
 /// where even these don't.
-pub(crate) fn fewest_lower(rows: &[Row], coverage: u64) -> usize
+pub(crate) fn fewest_lower(rows: &[MemberRow], coverage: u64) -> usize
     ensures { result ≡ fewest (λ n. sum_by (λ r. r.enclosure.lo) (take n rows.now)) coverage (length rows.now) }
 {
     let wanted = u128::from(coverage);

@@ -162,7 +162,7 @@ fn layer_of(
     requires below_one { coverage ≤ max_coverage }
     ensures { IfOk result (λ l. l ≡ cover_numbers elements.now coverage) }
 {
-    let members = Members::of_layer(alloc, elements, layers, end.members)?;
+    let members = Members::of_layer(alloc, elements, layers)?;
     Ok(ReachingLayer {
         threshold: end.threshold,
         size: members.fewest_lower(coverage),

@@ -16,6 +16,7 @@
 //! texts and masses to what it gives.
 #![tactic(auto)]
 
+mod falling;
 mod fault;
 mod fewest;
 mod layer;

@@ -1,17 +1,22 @@
 //! Values that come from outside: worked examples of layers, and that each call succeeds with ample memory.
 
-ghost use Rattle.std.specs.Prelude.{◌≡◌, ◌+◌, ◌<◌, ◌≤◌, IfOk, OnOk, length};
+ghost use Rattle.std.specs.Prelude.{◌≡◌, ◌+◌, ◌<◌, ◌≤◌, All, IfOk, OnOk, length};
 ghost use Rattle.multinomial_bounds.specs.Weight.{IsWeights};
 ghost use Rattle.multinomial_bounds.specs.Isotopologue.{all_atoms};
 ghost use Rattle.isotopologue_sets.specs.Layers.{AreElements};
 ghost use Rattle.isotopologue_sets.specs.Coverage.{max_coverage};
+ghost use Rattle.layered_envelope.specs.Layerings.{with_next};
 
 use super::*;
 use isotopologue_list::IsotopologueList;
 use isotopologue_sets::ElementAtoms;
+use layered_envelope::{LayerEnd, LayerFault, Layers};
 use multinomial_bounds::{Enclosure, MAX_ATOMS};
+use outside_ports::Steps;
 use std::alloc::{AllocError, Global};
+use std::marker::Brand;
 use std::process::Abort;
+use std::sync::ledger::{Blank, Ledger};
 use std::test::Fail;
 
 const HALF: u64 = 500_000_000_000_000_000;
@@ -338,6 +343,95 @@ fn layers_are_those_of_the_list_of_all_isotopologues(rt: HostRuntime) -> Result<
         let before = layer.threshold().saturating_mul(2).saturating_add(1);
         let (_, before) = above(list.enclosures(), before);
         assert!(rt; before < u128::from(coverage));
+    }
+    Ok(())
+}
+
+/// Some counts from a place on.
+fn counts_at(counts: &[u32], start: usize, width: usize) -> &[u32] {
+    let rest = &counts[start.min(counts.len())..];
+    &rest[..width.min(rest.len())]
+}
+
+fn next_with<L: Ledger>(layers: &mut Layers, blank: Blank) -> Result<Option<LayerEnd>, LayerFault>
+    requires name { blank.name ≡ L.name }
+    requires parts { blank.parts ≡ L.parts }
+    requires some { 0 < blank.parts }
+    ensures { IfOk result (λ end. layers.new ≡ with_next layers.old end) }
+{
+    let mut steps = Steps::<L>::new(blank);
+    layers.next_layer(&mut steps)
+}
+
+/// The next layer, how many of its members have an upper bound above a number, and the counts of the others, of so many
+/// isotopes each.
+fn next_added(
+    alloc: Global,
+    layers: &mut Layers,
+    above: u64,
+    width: usize,
+) -> Result<Option<(LayerEnd, u64, Vec<u32>)>, Fail> {
+    let Some(end) = next_with::<Brand>(layers, Blank::new(1))? else {
+        return Ok(None);
+    };
+    let (counts, rows) = layers.gathered()?;
+    let mut older: u64 = 0;
+    let mut added = Vec::new(alloc);
+    for row in rows.as_slice() {
+        if row.enclosure.hi > above {
+            older = older.saturating_add(1);
+        } else {
+            added.extend_from_slice(counts_at(&counts, row.start, width))?;
+        }
+    }
+    Ok(Some((end, older, added)))
+}
+
+/// How often the counts of the isotopologue at a place of a list, of 2 and 4 isotopes, are among counts end to end.
+fn times_found(all: &[u32], list: &IsotopologueList, place: usize) -> usize
+    requires within { place < length list.now }
+    requires two { All (λ i. length i.counts ≡ 2) list.now }
+{
+    let (first, second) = (list.counts(place, 0), list.counts(place, 1));
+    let mut times: usize = 0;
+    for member in 0..all.len() / 6 {
+        let start = 6 * member;
+        if counts_at(all, start, 2) == first && counts_at(all, start + 2, 4) == second {
+            times = times.saturating_add(1);
+        }
+    }
+    times
+}
+
+#[test]
+fn what_layers_add_one_after_another_are_all_isotopologues_each_once(
+    rt: HostRuntime,
+) -> Result<(), Fail> {
+    let alloc = rt.alloc();
+    let mut elements = Vec::new(alloc);
+    add_element(alloc, &mut elements, &[989_300_000, 10_700_000], 3)?;
+    add_element(
+        alloc,
+        &mut elements,
+        &[949_900_000, 7_500_000, 42_500_000, 100_000],
+        2,
+    )?;
+    let list = IsotopologueList::of(alloc, &elements)?;
+    let mut layers = Layers::start(alloc, elements)?;
+    let mut all: Vec<u32> = Vec::new(alloc);
+    let (mut above, mut members) = (u64::MAX, 0);
+    for _ in 0..60 {
+        let (end, older, added) = next_added(alloc, &mut layers, above, 6)?.ok_or("no layer")?;
+        assert_eq!(rt; older, members);
+        let found = (added.len() / 6) as u64;
+        assert_eq!(rt; older.saturating_add(found), end.members);
+        all.extend_from_slice(&added)?;
+        (above, members) = (end.threshold, end.members);
+    }
+    assert_eq!(rt; (above, members, list.len()), (0, 40, 40));
+    assert_eq!(rt; all.len(), 240);
+    for place in 0..list.len() {
+        assert_eq!(rt; times_found(&all, &list, place), 1);
     }
     Ok(())
 }

@@ -5,11 +5,13 @@ use Rattle.std.proofs.lemmas.List.Elements.{All-drop}
 use Rattle.multinomial_bounds.specs.Bounds.{certainty}
 use Rattle.sub_isotopologues.specs.Listings.{Listing, items_of}
 use Rattle.layered_envelope.specs.declared.layer_end.TheConstants.{MAX_MEMBERS}
-use Rattle.layered_envelope.specs.Walks.{lower, upper}
+use Rattle.layered_envelope.specs.ChosenPlaces.{firsts}
+use Rattle.layered_envelope.specs.Walks.{lower, upper, his_of}
 use Rattle.layered_envelope.specs.CountedWalks.{members_above}
 use Rattle.layered_envelope.proofs.CountedParts.{members_from, hi_item, lo_item, members_all, members_some, members_next, adds_none, adds_more, adds_all}
 use Rattle.layered_envelope.proofs.CountedParts.{adds_member, one_too_many, steps_more, steps_to_limit, item_within, item_hi, item_lo}
 use Rattle.layered_envelope.proofs.CountedParts.{members_fewer, below_item, modes_later, firsts_later, above_items, above_member, lower_is, upper_is, none_of}
+use Rattle.layered_envelope.proofs.CutoffLaws.{cutoff_first, cutoffs_part}
 use Rattle.layered_envelope.proofs.counting.+counting.Goals as goal
 
 pub count_chosen-count_items-requires : goal.count_chosen-count_items-requires
@@ -17,7 +19,6 @@ count_chosen-count_items-requires g t c κs within =
     let l = c.in-Some.list.now in
     let ls = c.in-Some.later.now in
     let split = c.in-Some.ensures.cases.0 in
-    let modes = c.args.modes.now in
     let product : c.times.result.hi ≡ upper c.args.before.hi c.args.item.hi =
     upper_is c.args.before.hi c.args.item.hi c.times.result.hi c.times.ensures.hi in (
       omega (arith, c.decreases, ap length split),
@@ -26,16 +27,13 @@ count_chosen-count_items-requires g t c κs within =
         (
           rw split at c.requires.falling,
           (
-            firsts_later c.args.lists.now l ls split modes c.requires.modes,
+            rw split at c.requires.cutoffs,
             (
-              rw (modes_later c.args.lists.now l ls split modes) (All-drop (λ hi. hi ≤ certainty) 1 modes c.requires.at_most_one),
+              above_items c.args.lists.now l ls split (firsts (his_of c.args.lists.now)) c.args.threshold
+                  (upper c.args.before.hi c.args.item.hi) c.times.result.hi product refl c.requires.above,
               (
-                above_items c.args.lists.now l ls split modes c.args.threshold (upper c.args.before.hi c.args.item.hi)
-                    c.times.result.hi product c.requires.modes c.requires.above,
-                (
-                  c.requires.fits,
-                  c.requires.lower,
-                ),
+                c.requires.fits,
+                c.requires.lower,
               ),
             ),
           ),
@@ -47,7 +45,7 @@ pub count_chosen-returns-in-None-clause-adds : goal.count_chosen-returns-in-None
 count_chosen-returns-in-None-clause-adds g t c =
     let x : ℕ = upper c.args.before.hi c.args.item.hi in
     let none = none_of c.args.lists.now c.in-None.ensures.cases in
-    let over = above_member c.args.lists.now c.args.modes.now c.args.threshold x none c.requires.modes
+    let over = above_member c.args.lists.now (firsts (his_of c.args.lists.now)) c.args.threshold x none refl
     c.requires.above in
     rw none
     (OnTrue_from c.count_member.result _
@@ -59,7 +57,7 @@ pub count_chosen-returns-in-None-clause-too_many : goal.count_chosen-returns-in-
 count_chosen-returns-in-None-clause-too_many g t c =
     let x : ℕ = upper c.args.before.hi c.args.item.hi in
     let none = none_of c.args.lists.now c.in-None.ensures.cases in
-    let over = above_member c.args.lists.now c.args.modes.now c.args.threshold x none c.requires.modes
+    let over = above_member c.args.lists.now (firsts (his_of c.args.lists.now)) c.args.threshold x none refl
     c.requires.above in
     rw none
     (OnFalse_from c.count_member.result _
@@ -102,8 +100,8 @@ count_items-loop-choice-init g t c =
           );
     }
 
-pub count_items-returns-then-not-is_above-clause-adds : goal.count_items-returns-then-not-is_above-clause-adds
-count_items-returns-then-not-is_above-clause-adds g t c =
+pub count_items-returns-then-not-passes-clause-adds : goal.count_items-returns-then-not-passes-clause-adds
+count_items-returns-then-not-passes-clause-adds g t c =
     let l = c.args.list.now in
     let ls = c.args.later.now in
     let lists : List Listing = l ∷ ls in
@@ -119,8 +117,45 @@ count_items-returns-then-not-is_above-clause-adds g t c =
     adds_all c.args.threshold c.args.before.lo x lists p c.args.end.now c.loop-choice.end c.loop-choice.invariant.adds
     c.requires.falling c.requires.lower
     (λ within.
-    below_item c.args.threshold x h p l ls c.args.later_modes.now c.requires.modes hi
-    c.if-not-is_above.ensures.above.1)
+    below_item c.args.threshold x h p l ls (firsts (his_of ls)) refl hi
+    (c.if-not-passes.ensures.above c.args.threshold (firsts (his_of ls))
+    (cutoff_first c.args.threshold l ls c.args.cutoffs.now c.requires.cutoffs)).1)
+
+pub count_items-returns-then-not-passes-clause-steps : goal.count_items-returns-then-not-passes-clause-steps
+count_items-returns-then-not-passes-clause-steps g t c =
+    let lists : List Listing = c.args.list.now ∷ c.args.later.now in
+    omega (
+      arith,
+      c.if-not-passes.ensures.step,
+      c.loop-choice.invariant.steps,
+      c.loop-choice.invariant.adds.passed,
+      members_some c.args.threshold c.args.before.hi lists c.requires.falling c.requires.above,
+    )
+
+pub count_items-count_chosen-requires : goal.count_items-count_chosen-requires
+count_items-count_chosen-requires g t c κs within =
+    let l = c.args.list.now in
+    let ls = c.args.later.now in
+    let over = (c.if-not-passes.ensures.above c.args.threshold (firsts (his_of ls))
+    (cutoff_first c.args.threshold l ls c.args.cutoffs.now c.requires.cutoffs)).0 refl in (
+      omega (arith, c.decreases),
+      (
+        within,
+        (
+          c.requires.falling.1,
+          (
+            cutoffs_part c.args.threshold l ls c.args.cutoffs.now c.requires.cutoffs,
+            (
+              over,
+              (
+                c.loop-choice.invariant.fits,
+                omega (arith, c.loop-choice.invariant.adds.same, c.requires.lower),
+              ),
+            ),
+          ),
+        ),
+      ),
+    )
 
 pub count_items-returns-then-not-count_chosen-clause-too_many :
     goal.count_items-returns-then-not-count_chosen-clause-too_many
@@ -179,7 +214,7 @@ count_items-returns-then-not-count_chosen-clause-steps_at_limit g t c =
     (members_from c.args.end.now.threshold x lists p)
     (members_above c.args.end.now.threshold (upper x h) ls) MAX_MEMBERS so_far.members so_far.passed
     (omega (arith, older_next)) c.loop-choice.invariant.fits.members
-    (omega (arith, rw so_far.same at c.if-not-count_chosen.ensures.steps_at_limit, c.if-not-is_above.ensures.step))
+    (omega (arith, rw so_far.same at c.if-not-count_chosen.ensures.steps_at_limit, c.if-not-passes.ensures.step))
 
 pub count_items-loop-choice-preserved : goal.count_items-loop-choice-preserved
 count_items-loop-choice-preserved g t c =
@@ -201,8 +236,8 @@ count_items-loop-choice-preserved g t c =
     let next = members_next c.args.threshold x lists p h c.enclosure-item.result.lo within hi lo in
     let older_next = members_next c.args.end.now.threshold x lists p h c.enclosure-item.result.lo within hi lo in
     let so_far = c.loop-choice.invariant.adds in
-    let over = subst (λ ms. c.args.threshold < fold upper (upper x h) ms) c.requires.modes
-    (c.if-not-is_above.ensures.above.0 refl) in
+    let over = (c.if-not-passes.ensures.above c.args.threshold (firsts (his_of ls))
+    (cutoff_first c.args.threshold l ls c.args.cutoffs.now c.requires.cutoffs)).0 refl in
     record {
       adds = adds_more c.args.threshold c.args.before.lo x lists p c.args.end.now c.loop-choice.end so_far
           c.count_chosen.new.end h c.enclosure-item.result.lo within hi lo
@@ -213,7 +248,7 @@ count_items-loop-choice-preserved g t c =
           (members_from c.args.threshold x lists p) (members_above c.args.threshold x lists)
           c.loop-choice.invariant.steps (members_above c.args.threshold (upper x h) ls)
           (members_from c.args.threshold x lists (p + 1)) next
-          (omega (arith, c.if-not-count_chosen.ensures.steps, c.if-not-is_above.ensures.step));
+          (omega (arith, c.if-not-count_chosen.ensures.steps, c.if-not-passes.ensures.step));
     }
 
 pub count_items-returns-clause-adds : goal.count_items-returns-clause-adds

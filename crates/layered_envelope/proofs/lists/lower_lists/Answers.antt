@@ -1,7 +1,7 @@
 use Rattle.std.proofs.Common.{arith, get_or}
 use Rattle.std.proofs.lemmas.List.{get_or_default}
 use Rattle.std.proofs.lemmas.Result.{err_from_is_err_and}
-use Rattle.layered_envelope.proofs.LoweredLists.{any_too_long, lowered_kinds, lowered_at_least, lowered_at_most, lowered_to}
+use Rattle.layered_envelope.proofs.LoweredLists.{any_too_long, cutoff_at, lowered_kinds, lowered_at_least, lowered_at_most, lowered_to}
 use Rattle.layered_envelope.proofs.lists.lower_lists.Goals as goal
 
 pub returns-in_err-lower_list-clause-too_long : goal.returns-in_err-lower_list-clause-too_long
@@ -13,6 +13,14 @@ returns-in_err-lower_list-clause-too_long c =
     c.in_err-lower_list.field-0.0 c.loop-place.invariant.kinds (omega arith)
     (get_or_default c.loop-place.lists c.loop-place.place c.index-lists-place.result _ (omega arith))
     c.in_err-lower_list.ensures.too_many)
+
+pub lower_list-requires-clause-cutoff : goal.lower_list-requires-clause-cutoff
+lower_list-requires-clause-cutoff c =
+    let now = c.loop-place.lists in
+    let item = get_or now c.loop-place.place c.index-lists-place.result in
+    let is = get_or_default now c.loop-place.place c.index-lists-place.result item (omega arith) in
+    cutoff_at c.args.lists.now now c.args.threshold c.loop-place.place item c.args.cutoffs.now
+    c.loop-place.invariant.kinds (omega arith) is c.requires.lists c.requires.cutoffs
 
 pub loop-place-preserved : goal.loop-place-preserved
 loop-place-preserved c =

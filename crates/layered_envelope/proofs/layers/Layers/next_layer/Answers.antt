@@ -47,11 +47,18 @@ invariant_of-self g c =
     let e = take_at new (drop (length new) s.lists.items) s.lists.len (c.next_end.auto.lists
     ∙ c.deref_mut.ensures.len) in
     let kinds = c.in_err-end.ensures.kinds ∙ ap kinds_of c.deref_mut.ensures.value in
-    subst (λ ls. AreLayers ls s.modes.items s.mode_hi s.given × IsLast (elements_of ls) s.mode_hi s.given s.last) (sym e) (
+    let cut = c.next_end.new.cutoffs in
+    let written = take_at cut (drop (length cut) s.cutoffs.items) s.cutoffs.len (c.next_end.auto.cutoffs
+    ∙ c.deref_mut-2.ensures.len) in
+    let many = ap length written ∙ c.next_end.auto.cutoffs ∙ ap length c.deref_mut-2.ensures.value
+    ∙ c.self.invariant.2 in
+    let kept = subst
+    (λ ls. AreLayers ls s.modes.items s.mode_hi s.given × IsLast (elements_of ls) s.mode_hi s.given s.last) (sym e) (
       layers-lowered s.lists.items s.modes.items s.mode_hi s.given c.self.invariant.0 new kinds
           c.in_err-end.ensures.at_least (rw c.deref_mut.ensures.value at c.in_err-end.ensures.at_most),
       last-same s.lists.items s.modes.items s.mode_hi s.given c.self.invariant.0 s.last c.self.invariant.1 new kinds,
-    )
+    ) in
+    (kept.0, kept.1, many)
 
 pub returns-in_err-end-clause-gives : goal.returns-in_err-end-clause-gives
 returns-in_err-end-clause-gives g c =
@@ -99,7 +106,12 @@ invariant_of-self-2 g c =
       | else-self-gt0-via-else-self-gt0 w ↦ λ some. absurd (omega (arith, w.if-self-gt0.false))
     ] in
     let gives = rw c.deref_mut.ensures.value at c.in_ok-end.ensures.gives in
-    subst
+    let cut = c.next_end.new.cutoffs in
+    let written = take_at cut (drop (length cut) s.cutoffs.items) s.cutoffs.len (c.next_end.auto.cutoffs
+    ∙ c.deref_mut-2.ensures.len) in
+    let many = ap length written ∙ c.next_end.auto.cutoffs ∙ ap length c.deref_mut-2.ensures.value
+    ∙ c.self.invariant.2 in
+    let kept = subst
     (λ ls. AreLayers ls s.modes.items s.mode_hi (s.given + 1)
     × IsLast (elements_of ls) s.mode_hi (s.given + 1) c.in_ok-end.end)
     (sym e) (
@@ -108,7 +120,8 @@ invariant_of-self-2 g c =
           c.in_ok-end.ensures.ok more,
       last-given s.lists.items s.modes.items s.mode_hi s.given c.self.invariant.0 s.last c.self.invariant.1 new kinds
           c.in_ok-end.end c.in_ok-end.ensures.fits c.in_ok-end.ensures.threshold gives,
-    )
+    ) in
+    (kept.0, kept.1, many)
 
 pub returns-clause-gives : goal.returns-clause-gives
 returns-clause-gives g c =

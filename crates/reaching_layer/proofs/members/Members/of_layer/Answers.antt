@@ -8,9 +8,9 @@ use Rattle.isotopologue_sets.specs.Layers.{layer}
 use Rattle.layered_envelope.specs.PlacedLayers.{counts_at}
 use Rattle.layered_envelope.proofs.LayersByPlace.{layer-IsPermutation}
 use Rattle.layered_envelope.specs.Layerings.{last_threshold, last_places}
-use Rattle.reaching_layer.specs.declared.members.Row.{Row}
+use Rattle.layered_envelope.specs.declared.gathering.MemberRow.{MemberRow}
 use Rattle.reaching_layer.specs.MemberRows.{row_stands_before}
-use Rattle.reaching_layer.specs.GatheredRows.{end_to_end, AreRows}
+use Rattle.layered_envelope.specs.GatheredRows.{end_to_end, AreRows}
 use Rattle.reaching_layer.proofs.MemberRowLaws.{few_isotopes}
 use Rattle.reaching_layer.proofs.OrderedRows.{gathered-ordered}
 use Rattle.reaching_layer.proofs.members.Members.of_layer.Goals as goal
@@ -35,8 +35,8 @@ returns c =
     let members : List (List ℕ) = last_places c.args.layers.now in
     let isotopes : List ℕ = c.in_ok-isotopes.isotopes.items in
     let counts : List ℕ = c.in_ok-counts.counts.items in
-    let rows : List Row = c.in_ok-counts.rows.items in
-    let ordered : List Row = c.sort_rows.new.rows.items in
+    let rows : List MemberRow = c.in_ok-counts.rows.items in
+    let ordered : List MemberRow = c.sort_rows.new.rows.items in
     let width : c.total_of-width.result ≡ sum isotopes = c.total_of-width.ensures ∙ ap sum c.deref.ensures.value in
     let sorted : IsSortedBy (row_stands_before counts (sum isotopes)) ordered =
     rw (c.deref-2.ensures.value, width) at c.sort_rows.ensures.in_order in
