@@ -35,7 +35,8 @@ rows-from_splits table (p ∷ ps) counts h =
       joined = ap (λ (xs : List ℕ). take n counts ++ xs) more.joined ∙ take-append-drop n counts;
     }
 
-splits-from_rows : (table : TableEntries) (items : List (Item × ℕ)) (rows : List (List ℕ)) → IsIsotopologue (map (element_in table) items) rows → Splits table items (concat rows)
+splits-from_rows : (table : TableEntries) (items : List (Item × ℕ)) (rows : List (List ℕ)) →
+    IsIsotopologue (map (element_in table) items) rows → Splits table items (concat rows)
 splits-from_rows table [] [] h = refl
 splits-from_rows table [] (row ∷ rows) h = absurd h
 splits-from_rows table (p ∷ ps) [] h = absurd h
@@ -46,18 +47,22 @@ splits-from_rows table (p ∷ ps) (row ∷ rows) h =
       subst (Splits table ps) (sym (drop_at row (concat rows) (length isotopes) long)) (splits-from_rows table ps rows h.1),
     )
 
-pub isotopologue-from_splits : (table : TableEntries) (formula : List (Item × ℕ)) (counts : List ℕ) → Splits table (plain_items formula) counts → IsIsotopologueOf table formula counts
+pub isotopologue-from_splits : (table : TableEntries) (formula : List (Item × ℕ)) (counts : List ℕ) →
+    Splits table (plain_items formula) counts → IsIsotopologueOf table formula counts
 isotopologue-from_splits table formula counts h =
     let found = rows-from_splits table (plain_items formula) counts h in
     record { by_element = found.rows; isotopologue = found.isotopologue; joined = found.joined }
 
-pub splits-from_isotopologue : (table : TableEntries) (formula : List (Item × ℕ)) (counts : List ℕ) → IsIsotopologueOf table formula counts → Splits table (plain_items formula) counts
+pub splits-from_isotopologue : (table : TableEntries) (formula : List (Item × ℕ)) (counts : List ℕ) →
+    IsIsotopologueOf table formula counts → Splits table (plain_items formula) counts
 splits-from_isotopologue table formula counts h =
     subst (Splits table (plain_items formula)) h.joined (splits-from_rows table (plain_items formula) h.by_element h.isotopologue)
 
 -- at an item without a label the rest begins with its counts
 
-pub begins : (table : TableEntries) (items : List (Item × ℕ)) (i : ℕ) (part : Item × ℕ) (rest : List ℕ) (n : ℕ) → i < length items → part ≡ get_or items i part → part.0.label ≡ 0 → n ≡ length (isotopes_of table part.0) → Splits table (plain_items (drop i items)) rest → BeginsWithCounts n part.1 rest
+pub begins : (table : TableEntries) (items : List (Item × ℕ)) (i : ℕ) (part : Item × ℕ) (rest : List ℕ) (n : ℕ) →
+    i < length items → part ≡ get_or items i part → part.0.label ≡ 0 → n ≡ length (isotopes_of table part.0) →
+    Splits table (plain_items (drop i items)) rest → BeginsWithCounts n part.1 rest
 begins table items i part rest n h e plain here splits =
     let own = subst (λ (ps : List (Item × ℕ)). Splits table ps rest) (plain-front items i part h e plain) splits in
     let long = own.0.places_agree ∙ length-map (isotopes_of table part.0) (λ (j : Isotope). j.weight) in
@@ -79,10 +84,12 @@ empty-is xs e = subst (λ (ys : List ℕ). IsTrue (length ys == 0)) (sym e) refl
 nothing-left : (table : TableEntries) (items : List (Item × ℕ)) (i : ℕ) → length items ≤ i → plain_items (drop i items) ≡ []
 nothing-left table items i h = ap plain_items (drop_all i items h)
 
-pub splits-from_end : (table : TableEntries) (items : List (Item × ℕ)) (i : ℕ) (rest : List ℕ) → length items ≤ i → IsTrue (length rest == 0) → Splits table (plain_items (drop i items)) rest
+pub splits-from_end : (table : TableEntries) (items : List (Item × ℕ)) (i : ℕ) (rest : List ℕ) → length items ≤ i →
+    IsTrue (length rest == 0) → Splits table (plain_items (drop i items)) rest
 splits-from_end table items i rest h empty =
     subst (λ (ps : List (Item × ℕ)). Splits table ps rest) (sym (nothing-left table items i h)) (is-empty rest empty)
 
-pub end-from_splits : (table : TableEntries) (items : List (Item × ℕ)) (i : ℕ) (rest : List ℕ) → length items ≤ i → Splits table (plain_items (drop i items)) rest → IsTrue (length rest == 0)
+pub end-from_splits : (table : TableEntries) (items : List (Item × ℕ)) (i : ℕ) (rest : List ℕ) → length items ≤ i →
+    Splits table (plain_items (drop i items)) rest → IsTrue (length rest == 0)
 end-from_splits table items i rest h splits =
     empty-is rest (subst (λ (ps : List (Item × ℕ)). Splits table ps rest) (nothing-left table items i h) splits)

@@ -35,7 +35,8 @@ few-occur (i ∷ is) =
 positive : (is : List Isotope) → AllByRecursion (λ w. 1 ≤ w) (weights (isotopes_that_occur is))
 positive [] = tt
 positive (i ∷ is) =
-    elim (nat_lt 0 i.weight) as (λ b. nat_lt 0 i.weight ≡ b → AllByRecursion (λ w. 1 ≤ w) (weights (cond b (i ∷ isotopes_that_occur is) (isotopes_that_occur is)))) [
+    elim (nat_lt 0 i.weight) as (λ b. nat_lt 0 i.weight ≡ b →
+    AllByRecursion (λ w. 1 ≤ w) (weights (cond b (i ∷ isotopes_that_occur is) (isotopes_that_occur is)))) [
       | true ↦ λ e. let above = ltb-true 0 i.weight e in (omega arith, positive is)
       | false ↦ λ e. positive is
     ] refl

@@ -1,10 +1,9 @@
 //! Isotopes with their counts, written from the last to the first.
 ghost use Rattle.std.specs.Prelude.{◌≡◌, ◌++◌, ◌+◌, ◌≤◌, OnOk, length, drop};
-ghost use Rattle.written_items.specs.Items.{count_text};
 ghost use Rattle.isotopologue_text.specs.Labels.{label_text, labelled_text, labels_text};
 
 use crate::label::{LABEL_LENGTH, Label};
-use itoa::write_digits;
+use backward_text::write_count;
 use std::alloc::AllocError;
 
 /// The most isotopes that are written before they are appended.
@@ -76,21 +75,6 @@ fn write_counted(room: &mut [u8], end: usize, label: &Label, count: u32) -> usiz
     }
     let digits = write_count(room, end, count);
     write_label(room, digits, label)
-}
-
-/// Writes a count so that it ends at `end`, nothing for 1, and tells where it begins.
-#[inline(always)]
-fn write_count(room: &mut [u8], end: usize, count: u32) -> usize
-    requires from { 10 ≤ end }
-    requires to { end ≤ length room.old }
-    ensures within { result ≤ end }
-    ensures short { end ≤ result + 10 }
-    ensures text { drop result room.new ≡ count_text count ++ drop end room.old }
-{
-    if count == 1 {
-        return end;
-    }
-    write_digits(u64::from(count), room, end)
 }
 
 /// Writes the text of an isotope so that it ends at `end`, and tells where it begins. The bytes before may change.

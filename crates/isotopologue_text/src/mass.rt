@@ -3,7 +3,8 @@ ghost use Rattle.std.specs.Prelude.{◌≡◌, ◌≤◌, ◌*◌, ◌<◌, All,
 ghost use Rattle.element_table.specs.Elements.{IsIsotope};
 ghost use Rattle.formula_text.specs.Formulas.{atoms_of};
 ghost use Rattle.formula_text.specs.Masses.{HasItems, item_isotope, item_mass, mass_of};
-ghost use Rattle.isotopologue_text.specs.Isotopologues.{isotopes_that_occur, formula_isotopes, labelled_items, counts_mass, isotopologue_mass_of, IsIsotopologueOf};
+ghost use Rattle.isotopologue_text.specs.Isotopologues.{isotopes_that_occur, formula_isotopes, labelled_items};
+ghost use Rattle.isotopologue_text.specs.Isotopologues.{counts_mass, isotopologue_mass_of, IsIsotopologueOf};
 
 use crate::isotopes::{isotope_count, isotopes_of};
 use element_table::{Isotope, Table};

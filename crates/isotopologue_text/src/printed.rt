@@ -1,10 +1,8 @@
 //! What the isotopologues of one formula are printed with, found once for all of them.
-ghost use Rattle.std.specs.Prelude.{◌≡◌, ◌++◌, ◌+◌, ◌*◌, ◌≤◌, ◌<◌, All, IfOk, OnOk, length, map, sum};
-ghost use Rattle.element_table.specs.Elements.{IsIsotope};
-ghost use Rattle.formula_text.specs.Formulas.{atoms_of};
+ghost use Rattle.std.specs.Prelude.{◌≡◌, ◌++◌, ◌≤◌, IfOk, OnOk, length, map, sum};
 ghost use Rattle.formula_text.specs.Masses.{HasItems};
 ghost use Rattle.isotopologue_text.specs.Isotopologues.{isotopes_that_occur, isotope_item, isotope_items};
-ghost use Rattle.isotopologue_text.specs.Isotopologues.{formula_isotopes, counts_mass};
+ghost use Rattle.isotopologue_text.specs.Isotopologues.{formula_isotopes};
 ghost use Rattle.isotopologue_text.specs.Labels.{AreLabels, label_text};
 ghost use Rattle.isotopologue_text.specs.Printed.{printed_isotopes, printed_text, printed_mass};
 ghost use Rattle.written_items.specs.Items.{item_text};
@@ -12,7 +10,7 @@ ghost use Rattle.written_items.specs.Items.{item_text};
 use crate::counted::push_counts;
 use crate::isotopes::isotopes_of;
 use crate::label::{LABEL_LENGTH, Label};
-use crate::mass::labelled_mass;
+use crate::masses::IsotopeMasses;
 use crate::text::has_plain;
 use element_table::{Isotope, Table};
 use formula_text::{Formula, Item};
@@ -30,14 +28,12 @@ pub struct PrintedIsotopes {
     items: Vec<Item>,
     /// The text of each item.
     labels: Vec<Label>,
-    isotopes: Vec<Isotope>,
-    labelled: u64,
+    masses: IsotopeMasses,
     has_plain: bool,
 }
 
 impl Model for PrintedIsotopes {
-    ghost use Rattle.std.specs.Prelude.{◌≡◌, ◌≤◌, All, length};
-    ghost use Rattle.element_table.specs.Elements.{IsIsotope};
+    ghost use Rattle.std.specs.Prelude.{◌≡◌, length};
     ghost use Rattle.isotopologue_text.specs.Labels.{AreLabels};
     ghost use Rattle.isotopologue_text.specs.Printed.{Printed};
 
@@ -45,15 +41,13 @@ impl Model for PrintedIsotopes {
 
     ghost view = { λ p. record {
       items = p.items.items;
-      isotopes = p.isotopes.items;
-      labelled = p.labelled;
+      isotopes = p.masses.isotopes;
+      labelled = p.masses.labelled;
       has_plain = p.has_plain;
     } };
 
-    ghost invariant = { λ p. All IsIsotope p.isotopes.items
-        × (length p.items.items ≡ length p.isotopes.items)
-        × AreLabels p.items.items p.labels.items
-        × (p.labelled ≤ 8000000000000000000) };
+    ghost invariant = { λ p. (length p.items.items ≡ length p.masses.isotopes)
+        × AreLabels p.items.items p.labels.items };
 }
 
 impl PrintedIsotopes {
@@ -67,13 +61,13 @@ impl PrintedIsotopes {
         ensures { IfOk result (λ p. p ≡ printed_isotopes table.now formula.now) }
     {
         let parts = formula.items();
-        let (items, isotopes) = gathered(alloc, table, parts)?;
+        let masses = IsotopeMasses::of(alloc, table, formula)?;
+        let items = items_in(alloc, table, parts)?;
         let labels = labels_of(alloc, &items)?;
         Ok(PrintedIsotopes {
             items,
             labels,
-            isotopes,
-            labelled: labelled_mass(table, parts),
+            masses,
             has_plain: has_plain(parts),
         })
     }
@@ -96,7 +90,7 @@ impl PrintedIsotopes {
         requires few_atoms { sum counts.now ≤ 20000 }
         ensures { result ≡ printed_mass self.now counts.now }
     {
-        mass_of(&self.isotopes, counts) + self.labelled
+        self.masses.mass(counts)
     }
 }
 
@@ -132,58 +126,25 @@ fn label_with(text: &[u8]) -> Label
     Label { bytes, start }
 }
 
-/// The sum of count times mass over isotopes.
-fn mass_of(isotopes: &[Isotope], counts: &[u32]) -> u64
-    requires agree { length counts.now ≡ length isotopes.now }
-    requires few_atoms { sum counts.now ≤ 20000 }
-    requires isotopes { All IsIsotope isotopes.now }
-    ensures mass { result ≡ counts_mass isotopes.now counts.now }
-    ensures bound { result ≤ 8000000000000000000 }
-{
-    let mut mass = 0;
-    for place in 0..isotopes.len() {
-        mass += u64::from(counts[place]) * isotopes[place].mass;
-    }
-    mass
-}
-
-/// The isotopes that occur of the items without a label, as labelled items and with their masses.
-fn gathered(
-    alloc: Global,
-    table: &Table,
-    parts: &[(Item, u32)],
-) -> Result<(Vec<Item>, Vec<Isotope>), AllocError>
+/// The isotopes that occur of the items without a label, as labelled items.
+fn items_in(alloc: Global, table: &Table, parts: &[(Item, u32)]) -> Result<Vec<Item>, AllocError>
     requires { HasItems table.now parts.now }
-    ensures items { IfOk result (λ r. r.0.items ≡ isotope_items table.now parts.now) }
-    ensures isotopes { IfOk result (λ r. r.1.items ≡ formula_isotopes table.now parts.now) }
-    ensures are_isotopes { IfOk result (λ r. All IsIsotope r.1.items) }
-    ensures as_many { IfOk result (λ r. length r.0.items ≡ length r.1.items) }
+    ensures items { IfOk result (λ items. items.items ≡ isotope_items table.now parts.now) }
+    ensures as_many { IfOk result (λ items. length items.items ≡ length (formula_isotopes table.now parts.now)) }
 {
     let mut items = Vec::new(alloc);
-    let mut isotopes = Vec::new(alloc);
     for (item, _) in parts {
         if item.label == 0 {
-            push_isotopes(item, isotopes_of(table, item), &mut items, &mut isotopes)?;
+            push_items(item, isotopes_of(table, item), &mut items)?;
         }
     }
-    Ok((items, isotopes))
+    Ok(items)
 }
 
-/// Appends the isotopes of an item's element that occur, as labelled items and with their masses.
-fn push_isotopes(
-    item: &Item,
-    own: &[Isotope],
-    items: &mut Vec<Item>,
-    isotopes: &mut Vec<Isotope>,
-) -> Result<(), AllocError>
-    requires isotopes { All IsIsotope own.now }
-    requires are_isotopes { All IsIsotope isotopes.old.items }
-    requires as_many { length items.old.items ≡ length isotopes.old.items }
-    ensures items { OnOk result (items.new.items
+/// Appends the isotopes of an item's element that occur, as labelled items.
+fn push_items(item: &Item, own: &[Isotope], items: &mut Vec<Item>) -> Result<(), AllocError>
+    ensures { OnOk result (items.new.items
         ≡ items.old.items ++ map (isotope_item item.now) (isotopes_that_occur own.now)) }
-    ensures isotopes { OnOk result (isotopes.new.items ≡ isotopes.old.items ++ isotopes_that_occur own.now) }
-    ensures are_isotopes { OnOk result (All IsIsotope isotopes.new.items) }
-    ensures as_many { OnOk result (length items.new.items ≡ length isotopes.new.items) }
 {
     for isotope in own {
         if isotope.weight > 0 {
@@ -191,7 +152,6 @@ fn push_isotopes(
                 symbol: item.symbol,
                 label: isotope.number,
             })?;
-            isotopes.push(*isotope)?;
         }
     }
     Ok(())

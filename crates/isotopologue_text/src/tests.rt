@@ -58,6 +58,24 @@ fn expect(
     Ok(())
 }
 
+/// The mass that an isotopologue is to have among many, and by itself.
+fn expect_mass(
+    rt: &impl Abort,
+    alloc: Global,
+    formula: &Formula,
+    counts: &[u32],
+    mass: u64,
+) -> Result<(), Fail> {
+    let table = read_table(alloc, ELEMENTS)?;
+    assert!(rt; has_items(&table, formula));
+    assert!(rt; is_isotopologue(&table, formula, counts));
+    assert!(rt; formula.atoms() <= 20_000);
+    let masses = IsotopeMasses::of(alloc, &table, formula)?;
+    assert_eq!(rt; masses.mass(counts), mass);
+    assert_eq!(rt; isotopologue_mass(&table, formula, counts), mass);
+    Ok(())
+}
+
 /// The formula that a text is read as.
 fn formula(alloc: Global, text: &[u8]) -> Result<Formula, Fail> {
     let table = read_table(alloc, ELEMENTS)?;
@@ -138,6 +156,19 @@ fn labelled_atoms_have_mass_and_no_text(rt: HostRuntime) -> Result<(), Fail> {
         b"[12C]2[13C]",
         63_010_064_505_210,
     )?;
+    Ok(())
+}
+
+#[test]
+fn masses_of_many_are_those_of_each(rt: HostRuntime) -> Result<(), Fail> {
+    let alloc = rt.alloc();
+    let dioxide = formula(alloc, b"CO2")?;
+    expect_mass(&rt, alloc, &dioxide, &[1, 0, 2, 0, 0], 43_989_829_239_140)?;
+    expect_mass(&rt, alloc, &dioxide, &[0, 1, 1, 0, 1], 46_997_429_067_500)?;
+    let all = labelled(&rt, alloc, 0)?;
+    expect_mass(&rt, alloc, &all, &[], 26_006_709_670_140)?;
+    let some = labelled(&rt, alloc, 3)?;
+    expect_mass(&rt, alloc, &some, &[2, 1], 63_010_064_505_210)?;
     Ok(())
 }
 

@@ -3,7 +3,9 @@ ghost use Rattle.std.specs.Prelude.{◌≡◌, ◌++◌, ◌≤◌, All, OnOk, I
 ghost use Rattle.std.specs.List.{list_any};
 ghost use Rattle.element_table.specs.Elements.{IsIsotope};
 ghost use Rattle.formula_text.specs.Masses.{HasItems};
-ghost use Rattle.isotopologue_text.specs.Isotopologues.{isotopes_that_occur, formula_isotopes, isotope_items, is_plain, isotope_item, isotope_text, counts_text, isotopologue_text_of, IsIsotopologueOf};
+ghost use Rattle.isotopologue_text.specs.Isotopologues.{isotopes_that_occur, formula_isotopes, isotope_items, is_plain};
+ghost use Rattle.isotopologue_text.specs.Isotopologues.{isotope_item, isotope_text, counts_text, isotopologue_text_of};
+ghost use Rattle.isotopologue_text.specs.Isotopologues.{IsIsotopologueOf};
 
 use crate::isotopes::{isotope_count, isotopes_of};
 use element_table::{Isotope, Table};

@@ -1,10 +1,9 @@
 //! The printed text of a formula, written from its last item to the first.
-ghost use Rattle.std.specs.Prelude.{◌≡◌, ◌++◌, ◌∷◌, ◌+◌, ◌<◌, ◌≤◌, OnOk, OnErr, length, take, drop};
-ghost use Rattle.std.specs.Fmt.{decimal};
+ghost use Rattle.std.specs.Prelude.{◌≡◌, ◌++◌, ◌+◌, ◌≤◌, OnOk, OnErr, length, take, drop};
 ghost use Rattle.written_items.specs.Items.{count_text, item_text};
 ghost use Rattle.formula_text.specs.PrintedText.{printed_text};
 
-use itoa::write_digits;
+use backward_text::{write_byte, write_count, write_number};
 use std::alloc::AllocError;
 use written_items::Item;
 
@@ -70,33 +69,6 @@ fn write_counted(room: &mut [u8], end: usize, item: &Item, count: u32) -> usize
     write_item(room, digits, item)
 }
 
-/// Writes a count so that it ends at `end`, nothing for 1, and tells where it begins.
-#[inline(always)]
-fn write_count(room: &mut [u8], end: usize, count: u32) -> usize
-    requires from { 10 ≤ end }
-    requires to { end ≤ length room.old }
-    ensures within { result ≤ end }
-    ensures short { end ≤ result + 10 }
-    ensures text { drop result room.new ≡ count_text count ++ drop end room.old }
-{
-    if count == 1 {
-        return end;
-    }
-    write_number(room, end, count)
-}
-
-/// Writes a number so that it ends at `end`, and tells where it begins.
-#[inline(always)]
-fn write_number(room: &mut [u8], end: usize, number: u32) -> usize
-    requires from { 10 ≤ end }
-    requires to { end ≤ length room.old }
-    ensures within { result ≤ end }
-    ensures short { end ≤ result + 10 }
-    ensures text { drop result room.new ≡ decimal number ++ drop end room.old }
-{
-    write_digits(u64::from(number), room, end)
-}
-
 /// Writes an item so that it ends at `end`, and tells where it begins.
 #[inline(always)]
 fn write_item(room: &mut [u8], end: usize, item: &Item) -> usize
@@ -132,16 +104,4 @@ fn write_symbol(room: &mut [u8], end: usize, symbol: &[u8]) -> usize
         at = write_byte(room, at, symbol[place]);
     }
     at
-}
-
-/// Writes a byte in front of `end`, and tells where it stands.
-#[inline(always)]
-fn write_byte(room: &mut [u8], end: usize, byte: u8) -> usize
-    requires from { 0 < end }
-    requires to { end ≤ length room.old }
-    ensures start { result + 1 ≡ end }
-    ensures text { drop result room.new ≡ byte ∷ drop end room.old }
-{
-    room[end - 1] = byte;
-    end - 1
 }

@@ -5,6 +5,7 @@ ghost use Rattle.std.specs.Prelude.{◌≡◌, ◌+◌, ◌≤◌, [], ◌∷◌
 ghost use Rattle.std.specs.Fmt.{decimal, signed_decimal};
 ghost use Rattle.report_lines.specs.ReportLines.{IsPrintedMass, ion_mass_text, line_feed, mass_text, space};
 
+use backward_text::write_byte;
 use itoa::write_digits;
 
 /// The units of 10^-12 Da in 1 Da.
@@ -27,13 +28,13 @@ pub fn write_masses(
     ensures written { drop result bytes.new ≡ space ∷ mass_text mass
         ++ space ∷ ion_mass_text ion_mass ++ space ∷ signed_decimal difference ++ line_feed ∷ [] }
 {
-    let start = write_byte(b'\n', bytes, NUMBERS_ROOM);
+    let start = write_byte(bytes, NUMBERS_ROOM, b'\n');
     let start = write_difference(difference, bytes, start);
-    let start = write_byte(b' ', bytes, start);
+    let start = write_byte(bytes, start, b' ');
     let start = write_ion_mass(ion_mass, bytes, start);
-    let start = write_byte(b' ', bytes, start);
+    let start = write_byte(bytes, start, b' ');
     let start = write_mass(mass, bytes, start);
-    write_byte(b' ', bytes, start)
+    write_byte(bytes, start, b' ')
 }
 
 /// Writes the numbers behind the text of an isotopologue, with a space before each, and a line feed: its mass with the
@@ -44,22 +45,11 @@ pub fn write_enclosed(mass: i128, lo: u64, hi: u64, bytes: &mut [u8; NUMBERS_ROO
     ensures written { drop result bytes.new ≡ space ∷ ion_mass_text mass
         ++ space ∷ decimal lo ++ space ∷ decimal hi ++ line_feed ∷ [] }
 {
-    let start = write_byte(b'\n', bytes, NUMBERS_ROOM);
+    let start = write_byte(bytes, NUMBERS_ROOM, b'\n');
     let start = write_number(hi, bytes, start);
     let start = write_number(lo, bytes, start);
     let start = write_ion_mass(mass, bytes, start);
-    write_byte(b' ', bytes, start)
-}
-
-/// Writes a byte.
-pub fn write_byte(byte: u8, bytes: &mut [u8], end: usize) -> usize
-    requires room { 1 ≤ end }
-    requires within { end ≤ length bytes.old }
-    ensures start { result + 1 ≡ end }
-    ensures written { drop result bytes.new ≡ byte ∷ drop end bytes.old }
-{
-    bytes[end - 1] = byte;
-    end - 1
+    write_byte(bytes, start, b' ')
 }
 
 /// Writes a number with a space before it.
@@ -71,7 +61,7 @@ pub fn write_number(number: u64, bytes: &mut [u8], end: usize) -> usize
     ensures written { drop result bytes.new ≡ space ∷ decimal number ++ drop end bytes.old }
 {
     let start = write_digits(number, bytes, end);
-    write_byte(b' ', bytes, start)
+    write_byte(bytes, start, b' ')
 }
 
 /// Writes a mass in 10^-12 Da with 12 decimals.
@@ -99,7 +89,7 @@ pub fn write_ion_mass(mass: i128, bytes: &mut [u8], end: usize) -> usize
 {
     let start = write_mass(mass.unsigned_abs() as u64, bytes, end);
     if mass < 0 {
-        return write_byte(b'-', bytes, start);
+        return write_byte(bytes, start, b'-');
     }
     start
 }
@@ -115,7 +105,7 @@ pub fn write_difference(difference: i128, bytes: &mut [u8], end: usize) -> usize
 {
     let start = write_digits(difference.unsigned_abs() as u64, bytes, end);
     if difference < 0 {
-        return write_byte(b'-', bytes, start);
+        return write_byte(bytes, start, b'-');
     }
     start
 }

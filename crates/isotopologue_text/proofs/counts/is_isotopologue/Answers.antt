@@ -20,7 +20,8 @@ returns-in-None c =
     c.isotope_count.ensures ∙ ap length c.isotopes_of.ensures.that_occur in (
       λ t. absurd (false≢true t),
       λ h. absurd (c.in-None.ensures
-          (begins c.args.table.now items c.loop-item.item-index part c.loop-item.rest.now c.isotope_count.result c.loop-item-test.true c.loop-item-item.is c.if-item-eq0.true here
+          (begins c.args.table.now items c.loop-item.item-index part c.loop-item.rest.now c.isotope_count.result
+          c.loop-item-test.true c.loop-item-item.is c.if-item-eq0.true here
           (c.loop-item.invariant.rest (splits-from_isotopologue c.args.table.now items c.args.counts.now
           (subst (λ (f : List (Item × ℕ)). IsIsotopologueOf c.args.table.now f c.args.counts.now) (sym c.items-items.ensures.items) h))))),
     )

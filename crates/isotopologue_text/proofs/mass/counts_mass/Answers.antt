@@ -18,7 +18,8 @@ loop-item-preserved c =
       | then-item-eq0 w ↦
           let own = isotopes_of c.args.table.now part.0 in
           let n = w.isotope_count.result in
-          let front = isotopes-front c.args.table.now c.args.items.now c.loop-item.item-index part c.loop-item-test.true c.loop-item-item.is w.if-item-eq0.true in
+          let front = isotopes-front c.args.table.now c.args.items.now c.loop-item.item-index part c.loop-item-test.true
+          c.loop-item-item.is w.if-item-eq0.true in
           let here : n ≡ length own = w.isotope_count.ensures ∙ ap length w.isotopes_of-isotopes.ensures.that_occur in
           let left : c.if-item-eq0.rest.now ≡ drop n rest = ap (λ (r : Bor (List ℕ)). r.now) w.rest-is ∙ w.split_at.ensures.back in
           let agrees = rest-agrees all own others rest n front here c.loop-item.invariant.agree in
@@ -33,7 +34,8 @@ loop-item-preserved c =
           let left_sum : sum c.if-item-eq0.rest.now ≡ sum (drop n rest) = ap sum left in
           record { agree = ap length left ∙ agrees; mass = omega arith; bound = omega arith }
       | else-item-eq0 w ↦
-          let same = isotopes-skip c.args.table.now c.args.items.now c.loop-item.item-index part c.loop-item-test.true c.loop-item-item.is w.if-item-eq0.false in
+          let same = isotopes-skip c.args.table.now c.args.items.now c.loop-item.item-index part c.loop-item-test.true
+          c.loop-item-item.is w.if-item-eq0.false in
           let left : c.if-item-eq0.rest.now ≡ rest = ap (λ (r : Bor (List ℕ)). r.now) w.rest-is in
           let left_mass : counts_mass others c.if-item-eq0.rest.now ≡ counts_mass all rest = rw (left, same) refl in
           let left_sum : sum c.if-item-eq0.rest.now ≡ sum rest = ap sum left in

@@ -20,7 +20,8 @@ loop-item-preserved c =
           let items = map (isotope_item part.0) own in
           let n = w.isotope_count.result in
           let here : n ≡ length own = w.isotope_count.ensures ∙ ap length w.isotopes_of-isotopes.ensures.that_occur in
-          let front = isotopes-front c.args.table.now c.args.items.now c.loop-item.item-index part c.loop-item-test.true c.loop-item-item.is w.if-item-eq0.true in
+          let front = isotopes-front c.args.table.now c.args.items.now c.loop-item.item-index part c.loop-item-test.true
+          c.loop-item-item.is w.if-item-eq0.true in
           let agrees = rest-agrees _ own _ rest n front here c.loop-item.invariant.agree in
           let parts = text-parts all items others rest n
           (items-front c.args.table.now c.args.items.now c.loop-item.item-index part c.loop-item-test.true c.loop-item-item.is w.if-item-eq0.true)
@@ -28,7 +29,9 @@ loop-item-preserved c =
           let left : c.if-item-eq0.rest.now ≡ drop n rest = ap (λ (r : Bor (List ℕ)). r.now) w.rest-is ∙ w.split_at.ensures.back in
           let grown : c.if-item-eq0.text.items ≡ c.loop-item.text.items ++ counts_text items (take n rest) =
           ap (λ (t : Vec ℕ Global). t.items) w.text-is ∙ w.in_ok-push_element.ensures
-          ∙ ap (λ (xs : List Isotope). c.loop-item.text.items ++ counts_text (map (isotope_item part.0) xs) w.split_at.result.0.now) w.isotopes_of-isotopes.ensures.that_occur
+          ∙ ap (λ (xs : List Isotope). c.loop-item.text.items
+          ++ counts_text (map (isotope_item part.0) xs) w.split_at.result.0.now)
+          w.isotopes_of-isotopes.ensures.that_occur
           ∙ ap (λ (ns : List ℕ). c.loop-item.text.items ++ counts_text items ns) w.split_at.ensures.front in
           record {
             agree = ap length left ∙ agrees;
@@ -39,8 +42,10 @@ loop-item-preserved c =
                 ∙ ap (λ (t : List ℕ). c.loop-item.text.items ++ t) (sym parts) ∙ c.loop-item.invariant.text;
           }
       | else-item-eq0 w ↦
-          let same = isotopes-skip c.args.table.now c.args.items.now c.loop-item.item-index part c.loop-item-test.true c.loop-item-item.is w.if-item-eq0.false in
-          let same_items = items-skip c.args.table.now c.args.items.now c.loop-item.item-index part c.loop-item-test.true c.loop-item-item.is w.if-item-eq0.false in
+          let same = isotopes-skip c.args.table.now c.args.items.now c.loop-item.item-index part c.loop-item-test.true
+          c.loop-item-item.is w.if-item-eq0.false in
+          let same_items = items-skip c.args.table.now c.args.items.now c.loop-item.item-index part
+          c.loop-item-test.true c.loop-item-item.is w.if-item-eq0.false in
           let left : c.if-item-eq0.rest.now ≡ rest = ap (λ (r : Bor (List ℕ)). r.now) w.rest-is in
           let left_text : counts_text others c.if-item-eq0.rest.now ≡ counts_text all rest = rw (left, same_items) refl in
           let text : c.if-item-eq0.text.items ≡ c.loop-item.text.items = ap (λ (t : Vec ℕ Global). t.items) w.text-is in

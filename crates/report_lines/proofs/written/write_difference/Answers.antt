@@ -9,8 +9,8 @@ write_digits-start-requires c =
     let short = length-decimal-le 20 c.unsigned_abs.result (omega arith) (omega arith) (omega arith) in
     (omega arith, omega arith)
 
-pub write_byte-requires-clause-room : goal.write_byte-requires-clause-room
-write_byte-requires-clause-room c =
+pub write_byte-requires-clause-from : goal.write_byte-requires-clause-from
+write_byte-requires-clause-from c =
     let few : c.unsigned_abs.result < 2 ^ 64 = omega (arith, ints) in
     let short = length-decimal-le 20 c.unsigned_abs.result (omega arith) (omega arith) (omega arith) in
     omega arith

@@ -8,12 +8,12 @@ pub returns-clause-written : goal.returns-clause-written
 returns-clause-written c =
     let none : drop 96 c.args.bytes.now ≡ [] = drop_all 96 c.args.bytes.now (omega arith) in
     let mass = to_z-of_z w128 c.args.mass c.ranges.mass in
-    c.write_byte.ensures.written
+    c.write_byte.ensures.text
     ∙ rw (
       c.write_ion_mass-start.ensures.written,
       c.write_number-start-2.ensures.written,
       c.write_number-start.ensures.written,
-      c.write_byte-start.ensures.written,
+      c.write_byte-start.ensures.text,
       none,
       mass,
     )

@@ -7,8 +7,8 @@ write_digits-start-requires c =
     let short = length-decimal-le 20 c.args.number (omega arith) (omega arith) (omega arith) in
     (omega arith, omega arith)
 
-pub write_byte-requires-clause-room : goal.write_byte-requires-clause-room
-write_byte-requires-clause-room c =
+pub write_byte-requires-clause-from : goal.write_byte-requires-clause-from
+write_byte-requires-clause-from c =
     let short = length-decimal-le 20 c.args.number (omega arith) (omega arith) (omega arith) in
     omega arith
 

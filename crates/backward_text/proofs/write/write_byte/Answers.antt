@@ -1,6 +1,6 @@
 use Rattle.std.proofs.Common.{◌≡◌, ◌+◌, ◌-◌, arith, refl}
 use Rattle.std.proofs.lemmas.List.{drop-set}
-use Rattle.report_lines.proofs.formula.write_byte.Goals as goal
+use Rattle.backward_text.proofs.write.write_byte.Goals as goal
 
 pub returns-clause-text : goal.returns-clause-text
 returns-clause-text c =

@@ -1,6 +1,6 @@
 use Rattle.std.proofs.Common.{arith, rules}
 use Rattle.std.proofs.lemmas.Fmt.{length-decimal-le}
-use Rattle.report_lines.proofs.formula.write_number.Goals as goal
+use Rattle.backward_text.proofs.write.write_number.Goals as goal
 
 pub write_digits-requires : goal.write_digits-requires
 write_digits-requires c =
