@@ -1,6 +1,7 @@
 //! The masses of members as one column, and the peaks that it reaches.
-ghost use Rattle.std.specs.Prelude.{◌≡◌, ◌≤◌, [], All, IfOk, IfSome, length, map, unsigned_abs};
+ghost use Rattle.std.specs.Prelude.{◌≡◌, ◌≤◌, [], pos, All, IfOk, IfSome, length, map, unsigned_abs};
 ghost use Rattle.mass_scaling.specs.Limits.{AreMeasured};
+ghost use Rattle.mass_scaling.specs.declared.limits.TheConstants.{MAX_ION_MASS};
 ghost use Rattle.prediction_score.specs.PeakOrders.{Each};
 ghost use Rattle.prediction_score.specs.Scores.{AreTerms, IsPredicted};
 ghost use Rattle.prediction_score.specs.Columns.{AreAsked, AreReaches, IsReach, IsReachAt};
@@ -10,6 +11,9 @@ use crate::predicted::Predicted;
 use lane_scan::count_between;
 use mass_scaling::{Charged, Tolerance, Window, window_of};
 use std::alloc::{AllocError, Global};
+
+/// The most members that are compared with their peaks one by one.
+const FEW_MEMBERS: usize = 32;
 
 /// Some of the peaks, next to each other by m/z, each with the window of the masses within its tolerance, or none where
 /// the window has no mass of the column.
@@ -32,7 +36,7 @@ impl Asked {
 
     /// Asks about the peaks that are next to a mass of a column, and about those between them: no other peak is the
     /// nearest to one.
-    pub(crate) fn of(
+    fn of(
         alloc: Global,
         entries: &[Entry],
         column: &[u64],
@@ -48,6 +52,27 @@ impl Asked {
         Ok(Asked { first, reaches })
     }
 
+    /// The same for the masses of members. Few members are compared with their peaks one by one, which costs less than
+    /// a column of them.
+    pub(crate) fn about(
+        alloc: Global,
+        entries: &[Entry],
+        members: &[Predicted],
+        divisor: u32,
+        tolerance: Tolerance,
+    ) -> Result<Asked, AllocError>
+        requires terms { AreTerms divisor tolerance }
+        requires measured { Each (λ e. AreMeasured e.mz tolerance divisor) entries.now }
+        requires members { All IsPredicted members.now }
+        ensures { IfOk result (AreAsked entries.now (map (λ m. unsigned_abs m.mass) members.now) divisor tolerance) }
+    {
+        if members.len() <= FEW_MEMBERS {
+            return Ok(Asked::none(alloc));
+        }
+        let column = column_of(alloc, members)?;
+        Asked::of(alloc, entries, &column, divisor, tolerance)
+    }
+
     /// What is known of the peak of an entry; nothing where it wasn't asked.
     pub(crate) fn get(&self, index: usize) -> Option<Option<Window>>
         ensures { IfSome result (IsReachAt self.now index) }
@@ -59,14 +84,25 @@ impl Asked {
     }
 }
 
+/// The mass of a member without its sign.
+pub(crate) fn mass_of(member: Predicted) -> u64
+    requires { IsPredicted member }
+    ensures mass { result ≡ unsigned_abs member.mass }
+    ensures is { pos result ≡ member.mass }
+    ensures some { 1 ≤ result }
+    ensures in_range { result ≤ MAX_ION_MASS }
+{
+    member.mass as u64
+}
+
 /// The masses of members without their sign.
-pub(crate) fn column_of(alloc: Global, members: &[Predicted]) -> Result<Vec<u64>, AllocError>
+fn column_of(alloc: Global, members: &[Predicted]) -> Result<Vec<u64>, AllocError>
     requires { All IsPredicted members.now }
     ensures { IfOk result (λ column. column.items ≡ map (λ m. unsigned_abs m.mass) members.now) }
 {
     let mut column = Vec::with_capacity(alloc, members.len())?;
     for member in members {
-        column.push(member.mass as u64)?;
+        column.push(mass_of(*member))?;
     }
     Ok(column)
 }

@@ -4,7 +4,7 @@ ghost use Rattle.std.specs.Prelude.{sum_by};
 ghost use Rattle.prediction_score.specs.PeakOrders.{AreShares, IsRisingBy, IsSplit};
 ghost use Rattle.prediction_score.specs.Scores.{ArePredicted, AreTerms, Match, matches_of};
 
-use crate::columns::{Asked, column_of};
+use crate::columns::{Asked, mass_of};
 use crate::order::{PeakOrder, place_of};
 use crate::predicted::Predicted;
 use mass_scaling::Tolerance;
@@ -45,11 +45,11 @@ pub(crate) fn shares_of(
         matched: 0,
         totals: Vec::new(alloc),
     };
-    let column = column_of(alloc, members)?;
     let entries = order.entries.as_slice();
-    let asked = Asked::of(alloc, entries, &column, divisor, tolerance)?;
-    for (index, member) in members.iter().enumerate() {
-        let place = place_of(entries, &asked, column[index], divisor, tolerance);
+    let asked = Asked::about(alloc, entries, members, divisor, tolerance)?;
+    for member in members {
+        let mass = mass_of(*member);
+        let place = place_of(entries, &asked, mass, divisor, tolerance);
         add_member(&mut shares, place, member.lo)?;
     }
     Ok(shares)

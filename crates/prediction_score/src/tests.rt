@@ -104,6 +104,19 @@ fn observed_shares_are_rounded_down(rt: HostRuntime) -> Result<(), Fail> {
 }
 
 #[test]
+fn many_members_are_held_against_the_peaks_as_a_column(rt: HostRuntime) -> Result<(), Fail> {
+    let alloc = rt.alloc();
+    let pairs = [(10 * 1_000_000_000_000, 1), (20 * 1_000_000_000_000, 3)];
+    let peaks = Peaks::of(alloc, &pairs)?.expect(&rt, "peaks");
+    let tolerance = Tolerance::Da { units: 1 };
+    let mass = 10 * DALTON;
+    let near = [Predicted { mass, lo: 2 }; 40];
+    assert_eq!(rt; score(alloc, &near, 1, &peaks, tolerance)?, 0);
+    assert_eq!(rt; score(alloc, &near, 3, &peaks, tolerance)?, 80);
+    Ok(())
+}
+
+#[test]
 fn peaks_without_intensity_have_no_share(rt: HostRuntime) -> Result<(), Fail> {
     let alloc = rt.alloc();
     let peaks = Peaks::of(alloc, &[(5 * 1_000_000_000_000, 0)])?.expect(&rt, "a peak");

@@ -3,6 +3,6 @@ use Rattle.prediction_score.specs.Scores.{matches_of}
 use Rattle.prediction_score.specs.PeakOrders.{AreShares}
 use Rattle.prediction_score.proofs.shares.shares_of.Given as goal
 
-abbrev pub invariant-loop-index : goal.invariant-loop-index
-invariant-loop-index l =
-    AreShares (length l.order) (matches_of l.order l.divisor l.tolerance (take l.index l.members)) l.shares
+abbrev pub invariant-loop-member : goal.invariant-loop-member
+invariant-loop-member l =
+    AreShares (length l.order) (matches_of l.order l.divisor l.tolerance (take l.member-index l.members)) l.shares
