@@ -1,5 +1,6 @@
 -- What the jobs of ranked peaks have found is the first of the candidates of their peaks.
-use Rattle.std.proofs.Common.{◌≡◌, ℕ, zero, suc, ◌+◌, ◌<◌, Bool, true, false, cond, ltb, List, [], ◌∷◌, ◌++◌, length, map, take, drop, refl, sym, ap, ◌∙◌, subst, arith, length-append}
+use Rattle.std.proofs.Common.{◌≡◌, ℕ, zero, suc, ◌+◌, ◌<◌, Bool, true, false, cond, ltb, List, [], ◌∷◌, ◌++◌, length}
+use Rattle.std.proofs.Common.{map, take, drop, refl, sym, ap, ◌∙◌, subst, arith, length-append}
 use Rattle.std.specs.Prelude.{Option, Some, None, option_map, find, not, slice_get}
 use Rattle.std.specs.List.{AllByRecursion, before_first, position_or_len, prefix_len, range_with_len}
 use Rattle.std.proofs.lemmas.Bool.{ltb-false, ltb-true}

@@ -13,7 +13,7 @@ use candidates::Ground;
 use job_turns::{Board, BoardFault};
 use peak_text::{MAX_PEAKS, Peaks};
 use prediction_score::PeakOrder;
-use ranking::{RankFault, RankJob};
+use ranking::{RankFault, RankJob, SharedLists};
 use std::alloc::{AllocError, Global};
 use std::marker::Model;
 use turn_rounds::play_rounds;
@@ -28,6 +28,8 @@ pub struct PeakRanking {
     coverage: u64,
     turn: u64,
     turns: Option<u64>,
+    /// The lists of elements that the jobs share while they take their turns.
+    lists: SharedLists,
 }
 
 impl Model for PeakRanking {
@@ -98,6 +100,7 @@ impl PeakRanking {
             coverage,
             turn,
             turns,
+            lists: SharedLists::new(),
         }
     }
 
@@ -139,7 +142,9 @@ impl PeakRanking {
     {
         let jobs = self.begun_jobs(alloc, order)?;
         let mut board = Board::of(alloc, jobs)?;
-        match play_rounds(&mut board, self.turn, self.turns) {
+        let end = play_rounds(&mut board, self.turn, self.turns);
+        self.lists.clear();
+        match end {
             Ok(()) => Ok(RankedPeaks::of(board)),
             Err(BoardFault::Job { fault, .. }) => Err(fault),
             Err(BoardFault::Memory) => Err(RankFault::Memory),
@@ -156,9 +161,10 @@ impl PeakRanking {
         ensures { IfOk result (λ jobs.
             map (λ job. begun (list_left job) (stop_left job)) jobs.items ≡ begun_jobs self.now) }
     {
+        let (premises, lists) = (&self.premises, &self.lists);
         let mut jobs = Vec::new(alloc);
         for place in self.first..self.first + self.jobs {
-            let job = RankJob::over(alloc, &self.premises, order, place, self.coverage)?;
+            let job = RankJob::sharing(alloc, premises, order, lists, place, self.coverage)?;
             jobs.push(job)?;
         }
         Ok(jobs)

@@ -1,5 +1,6 @@
 -- An ion has a prediction where its elements have a reaching layer, and its members' lower bounds total at most 1.
-use Rattle.std.proofs.Common.{◌≡◌, ℕ, ℤ, Bool, true, false, cond, pos, ◌-ℤ◌, ◌*◌, ◌+◌, ◌≤◌, List, [], ◌∷◌, ◌++◌, map, take, drop, ltb, refl, sym, ◌∙◌, ap, arith, All}
+use Rattle.std.proofs.Common.{◌≡◌, ℕ, ℤ, Bool, true, false, cond, pos, ◌-ℤ◌, ◌*◌, ◌+◌, ◌≤◌, List, [], ◌∷◌, ◌++◌, map}
+use Rattle.std.proofs.Common.{take, drop, ltb, refl, sym, ◌∙◌, ap, arith, All}
 use Rattle.std.specs.Prelude.{Result, Ok, Err, not, sum_by}
 use Rattle.std.specs.List.{concat}
 use Rattle.std.proofs.Math.Nat.{le_of_mul-le-mul_right}

@@ -1,6 +1,7 @@
 -- An isotopologue of a formula weighs 0.5 to 400 Da for each atom of the formula, and the electrons of an ion weigh
 -- less than an atom.
-use Rattle.std.proofs.Common.{SFits, ◌≡◌, ℕ, ℤ, zero, suc, pos, ◌-ℤ◌, ◌*◌, ◌<◌, ◌≤◌, ◌≤ℤ◌, List, [], ◌∷◌, length, Bool, true, false, cond, ltb, refl, sym, ap, subst, ◌∙◌, arith, All, map}
+use Rattle.std.proofs.Common.{SFits, ◌≡◌, ℕ, ℤ, zero, suc, pos, ◌-ℤ◌, ◌*◌, ◌<◌, ◌≤◌, ◌≤ℤ◌, List, [], ◌∷◌, length, Bool}
+use Rattle.std.proofs.Common.{true, false, cond, ltb, refl, sym, ap, subst, ◌∙◌, arith, All, map}
 use Rattle.std.specs.Prelude.{Option, Some, None, IsTrue, is_some, unsigned_abs, ◌==◌, not, sum, flat_map}
 use Rattle.std.specs.List.{zip, concat}
 use Rattle.std.specs.Int.{w128}
@@ -18,7 +19,9 @@ use Rattle.element_table.specs.Elements.{TableEntries, ElementEntry, IsTable, Is
 use Rattle.written_items.specs.declared.item.Item.{Item}
 use Rattle.formula_text.specs.Formulas.{atoms_of, IsFormula}
 use Rattle.formula_text.specs.Masses.{HasItems, item_isotope, item_mass, mass_of, isotope_in, isotope_if, isotope_mass}
-use Rattle.isotopologue_text.specs.Isotopologues.{isotopes_if, isotopes_of, is_plain, plain_items, labelled_items, element_in, formula_isotopes, counts_mass, isotopologue_mass_of, IsIsotopologueOf}
+use Rattle.isotopologue_text.specs.Isotopologues.{isotopes_if, isotopes_of, is_plain, plain_items, labelled_items}
+use Rattle.isotopologue_text.specs.Isotopologues.{element_in, formula_isotopes, counts_mass, isotopologue_mass_of}
+use Rattle.isotopologue_text.specs.Isotopologues.{IsIsotopologueOf}
 use Rattle.isotopologue_text.proofs.Found.{found}
 use Rattle.isotopologue_text.proofs.CountsLemmas.{counts-agree}
 

@@ -1,5 +1,6 @@
 -- How a job goes on by one candidate, and where it stops.
-use Rattle.std.proofs.Common.{◌≡◌, ℕ, zero, suc, ◌+◌, ◌-◌, ◌≤◌, Bool, true, false, cond, List, [], ◌∷◌, length, map, take, ltb, refl, sym, ap, subst, ◌∙◌, arith, add-one, ⊎_elim}
+use Rattle.std.proofs.Common.{◌≡◌, ℕ, zero, suc, ◌+◌, ◌-◌, ◌≤◌, Bool, true, false, cond, List, [], ◌∷◌, length, map}
+use Rattle.std.proofs.Common.{take, ltb, refl, sym, ap, subst, ◌∙◌, arith, add-one, ⊎_elim}
 use Rattle.std.specs.Prelude.{Some, None, find, not}
 use Rattle.std.specs.List.{before_first, position_or_len}
 use Rattle.std.proofs.Math.Numerals.{one-add}

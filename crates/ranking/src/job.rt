@@ -7,6 +7,7 @@ ghost use Rattle.ranking.specs.JobStops.{stop-not_free};
 
 use crate::fault::RankFault;
 use crate::limits::MAX_CANDIDATES;
+use crate::lists::{JobLists, SharedLists};
 use crate::ranked::Ranked;
 use crate::task::{Order, Task};
 use crate::waiting::Waiting;
@@ -15,19 +16,19 @@ use formula_text::Formula;
 use job_turns::Job;
 use peak_text::Peaks;
 use prediction_score::PeakOrder;
-use reaching_layer::GrownLists;
 use std::alloc::{AllocError, Global};
 use std::marker::Model;
 
 /// Ranks the candidates of a peak one by one, in candidate order. Lists of elements are kept from one candidate to the
-/// next. Contracts see the job's task, the candidates that are left and how many more of them it may give.
+/// next, until none is left or, where jobs share them, as long as those who made them keep them. Contracts see the job's
+/// task, the candidates that are left and how many more of them it may give.
 #[derive(Drop)]
 pub struct RankJob<'t> {
     alloc: Global,
     task: Task<'t>,
     waiting: Waiting<'t>,
     room: u64,
-    kept: GrownLists,
+    lists: JobLists<'t>,
 }
 
 impl<'t> Model for RankJob<'t> {
@@ -72,7 +73,8 @@ impl<'t> RankJob<'t> {
         })) }
     {
         let order = Order::Own(PeakOrder::of(alloc, peaks)?);
-        RankJob::of(alloc, premises, order, peak, coverage)
+        let lists = JobLists::Own(SharedLists::new());
+        RankJob::of(alloc, premises, order, lists, peak, coverage)
     }
 
     /// The same over an order of the peaks that several jobs share.
@@ -99,14 +101,45 @@ impl<'t> RankJob<'t> {
           coverage = coverage;
         })) }
     {
-        RankJob::of(alloc, premises, Order::Shared(order), peak, coverage)
+        let lists = JobLists::Own(SharedLists::new());
+        RankJob::of(alloc, premises, Order::Shared(order), lists, peak, coverage)
     }
 
-    /// The job over an order of either kind.
+    /// The same with lists of elements that several jobs share. They change nothing of what a job gives.
+    pub fn sharing(
+        alloc: Global,
+        premises: &'t Ground,
+        order: &'t PeakOrder<'t>,
+        lists: &'t SharedLists,
+        peak: usize,
+        coverage: u64,
+    ) -> Result<RankJob<'t>, AllocError>
+        requires inside { peak < length order.now }
+        requires some { 1 ≤ coverage }
+        requires below_one { coverage ≤ 999999 * 10 ^ 12 }
+        ensures list { IfOk result (λ job. list_left job ≡ ranked_list (record {
+          premises = premises.now;
+          peaks = order.now;
+          place = peak;
+          coverage = coverage;
+        })) }
+        ensures stop { IfOk result (λ job. stop_left job ≡ stop_of (record {
+          premises = premises.now;
+          peaks = order.now;
+          place = peak;
+          coverage = coverage;
+        })) }
+    {
+        let (order, lists) = (Order::Shared(order), JobLists::Shared(lists));
+        RankJob::of(alloc, premises, order, lists, peak, coverage)
+    }
+
+    /// The job over an order and with lists of either kind.
     fn of(
         alloc: Global,
         premises: &'t Ground,
         order: Order<'t>,
+        lists: JobLists<'t>,
         peak: usize,
         coverage: u64,
     ) -> Result<RankJob<'t>, AllocError>
@@ -139,7 +172,7 @@ impl<'t> RankJob<'t> {
             task,
             waiting,
             room: MAX_CANDIDATES,
-            kept: GrownLists::new(alloc),
+            lists,
         })
     }
 }
@@ -168,11 +201,14 @@ impl<'t> Job for RankJob<'t> {
 
     fn next(&mut self) -> Result<Option<Ranked>, RankFault> {
         let Some(formula) = self.waiting.take()? else {
+            self.lists.end();
             return Ok(None);
         };
+        let mut lists = self.lists.lend(self.alloc);
         let rated = self
             .task
-            .rated_within(self.alloc, self.room, &formula, &mut self.kept);
+            .rated_within(self.alloc, self.room, &formula, &mut lists);
+        self.lists.take_back(lists);
         match rated {
             Ok(rating) => {
                 self.room -= 1;

@@ -139,6 +139,24 @@ fn a_job_gives_the_candidates_in_their_order(rt: HostRuntime) -> Result<(), Fail
 }
 
 #[test]
+fn jobs_that_share_lists_give_what_each_gives_alone(rt: HostRuntime) -> Result<(), Fail> {
+    let alloc = rt.alloc();
+    let premises = ground_of(alloc)?;
+    let peaks = peaks_of(&rt, alloc)?;
+    let order = PeakOrder::of(alloc, &peaks)?;
+    let lists = SharedLists::new();
+    assert_eq!(rt; peaks.mz().len(), 2);
+    let mut first = RankJob::sharing(alloc, &premises, &order, &lists, 0, COVERAGE)?;
+    let mut second = RankJob::sharing(alloc, &premises, &order, &lists, 0, COVERAGE)?;
+    expect_next(&rt, &mut first, X)?;
+    expect_all(&rt, &mut second)?;
+    expect_next(&rt, &mut first, Y)?;
+    lists.clear();
+    expect_next(&rt, &mut first, Z)?;
+    expect_end(&rt, &mut first)
+}
+
+#[test]
 fn a_fault_is_told_in_words(rt: HostRuntime) -> Result<(), Fail> {
     let alloc = rt.alloc();
     let table = read_table(alloc, ELEMENTS)?;
