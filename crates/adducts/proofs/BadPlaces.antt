@@ -5,7 +5,8 @@ use Rattle.std.proofs.lemmas.Bool.{lt-ltb}
 use Rattle.reader_answers.specs.BadPlaces.{Begins, IsBadPlace}
 use Rattle.written_items.proofs.BadPlaceSteps.{first_byte, bad-here, bad-behind}
 use Rattle.adducts.specs.AdductTexts.{WrittenTerm, WrittenIon, IsAdductText}
-use Rattle.adducts.specs.AdductReader.{Reading, Nothing, Neutral, Copies, Terms, Coefficient, Row, Part, Charge, Whole, plain_part, with_part, new_term, step_terms, step, at_end, read_on, read_from}
+use Rattle.adducts.specs.AdductReader.{Reading, Nothing, Neutral, Copies, Terms, Coefficient, Row, Part, Charge, Whole}
+use Rattle.adducts.specs.AdductReader.{plain_part, with_part, new_term, step_terms, step, at_end, read_on, read_from}
 use Rattle.adducts.proofs.ReadingSteps.{read-byte, read-end, read-goes_on, read-stops}
 use Rattle.adducts.proofs.WrittenAdducts.{read-last, read-written}
 use Rattle.adducts.proofs.ReadTexts.{read-whole}

@@ -1,5 +1,7 @@
 -- The counts that are computed are those of the ion: the one formula that the adduct makes of the counts.
-use Rattle.std.proofs.Common.{◌≡◌, ℕ, ℤ, pos, ◌+ℤ◌, ◌-ℤ◌, ◌*ℤ◌, ◌+◌, ◌-◌, ◌*◌, ◌<◌, ◌≤◌, Bool, true, false, cond, ltb, List, [], ◌∷◌, ◌++◌, length, map, filter, sum_by, refl, sym, ap, subst, ◌∙◌, arith, append-nil}
+use Rattle.std.proofs.Common.{◌≡◌, ℕ, ℤ, pos, ◌+ℤ◌, ◌-ℤ◌, ◌*ℤ◌, ◌+◌, ◌-◌, ◌*◌, ◌<◌, ◌≤◌, Bool, true, false, cond, ltb}
+use Rattle.std.proofs.Common.{List, [], ◌∷◌, ◌++◌, length, map, filter, sum_by, refl, sym, ap, subst, ◌∙◌, arith}
+use Rattle.std.proofs.Common.{append-nil}
 use Rattle.std.specs.Prelude.{Option, Some, None, Result, Ok, Err, IsTrue, IfSome, All, is_some, not, ◌&&◌, ◌||◌, nat_le, option_map}
 use Rattle.std.specs.List.{AllByRecursion, list_any, list_all}
 use Rattle.std.proofs.lemmas.Bool.{false≢true, and_parts, and_from, leb-true, ltb-true, ltb-false, lt-ltb, le-ltb}
@@ -10,7 +12,8 @@ use Rattle.element_table.specs.Elements.{TableEntries}
 use Rattle.written_items.specs.declared.item.Item.{Item}
 use Rattle.formula_text.specs.declared.fault.PartsFault.{PartsFault}
 use Rattle.formula_text.specs.declared.fault.PartsFault.TheVariants as limit
-use Rattle.formula_text.specs.Formulas.{IsItem, IsParts, IsFormula, IsSumOf, count_in, atoms_of, sum_of, within_limits, has_many_atoms, has_many_items, formula_in, formula_of}
+use Rattle.formula_text.specs.Formulas.{IsItem, IsParts, IsFormula, IsSumOf, count_in, atoms_of, sum_of, within_limits}
+use Rattle.formula_text.specs.Formulas.{has_many_atoms, has_many_items, formula_in, formula_of}
 use Rattle.formula_text.specs.Masses.{HasItems, item_isotope, item_mass, mass_of}
 use Rattle.formula_text.proofs.CountsInOrder.{atoms_of-cons}
 use Rattle.formula_text.proofs.SumFolds.{with_atoms, sum_of-items, sum_of-atoms, sum_of-counts}
@@ -21,7 +24,9 @@ use Rattle.adducts.specs.Adducts.{AdductValue, IsAdduct}
 use Rattle.adducts.specs.Ions.{AreCounts, IsIonOf, gained, has_item, has_what_is_lost, ion_count, own_counts, ion_counts, ion_of, mass_of_ion, shift_of}
 use Rattle.adducts.specs.IonTests.{entry_count, other_count, has_few_atoms, has_few_of_each, item_count, has_few_items, are_within_limits}
 use Rattle.adducts.proofs.WeighedSums.{weigh, weigh-cons, weigh-append, equal-weights, times, weigh-times, count_in-times, count_in-append}
-use Rattle.adducts.proofs.ItemLists.{Distinct, Distinct-AllPairs, AllPairs-Distinct, parts-Distinct, count_in-absent, own-counts, each-within, at-most, counted-anew, has_item-filter, Distinct-filter, Distinct-anew, Distinct-append, has_item-anew_at, sum-entries, SameEntries}
+use Rattle.adducts.proofs.ItemLists.{Distinct, Distinct-AllPairs, AllPairs-Distinct, parts-Distinct, count_in-absent}
+use Rattle.adducts.proofs.ItemLists.{own-counts, each-within, at-most, counted-anew, has_item-filter, Distinct-filter}
+use Rattle.adducts.proofs.ItemLists.{Distinct-anew, Distinct-append, has_item-anew_at, sum-entries, SameEntries}
 
 -- ---- what is lost is there
 

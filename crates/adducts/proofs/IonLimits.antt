@@ -1,5 +1,6 @@
 -- The tests on an ion's counts tell whether there is an ion.
-use Rattle.std.proofs.Common.{◌≡◌, ℕ, ◌+◌, ◌-◌, ◌*◌, ◌<◌, ◌≤◌, Bool, true, false, cond, ltb, List, [], ◌∷◌, ◌++◌, length, map, filter, sum_by, refl, sym, ap, subst, ◌∙◌, arith, length-append}
+use Rattle.std.proofs.Common.{◌≡◌, ℕ, ◌+◌, ◌-◌, ◌*◌, ◌<◌, ◌≤◌, Bool, true, false, cond, ltb, List, [], ◌∷◌, ◌++◌}
+use Rattle.std.proofs.Common.{length, map, filter, sum_by, refl, sym, ap, subst, ◌∙◌, arith, length-append}
 use Rattle.std.specs.Prelude.{Option, Some, None, Result, Ok, Err, IsTrue, is_some, not, ◌&&◌, ◌||◌, nat_le, ◌↔◌}
 use Rattle.std.specs.List.{AllByRecursion, list_any, list_all}
 use Rattle.std.proofs.lemmas.Bool.{false≢true, and_parts, lt-ltb, le-ltb, ltb-true, ltb-false}
@@ -18,7 +19,8 @@ use Rattle.adducts.specs.Adducts.{AdductValue, IsAdduct}
 use Rattle.adducts.specs.Ions.{AreCounts, IsIonOf, gained, has_item, has_what_is_lost, ion_count, own_counts, ion_counts, ion_of}
 use Rattle.adducts.specs.IonTests.{entry_count, other_count, has_few_atoms, has_few_of_each, item_count, has_few_items, are_within_limits}
 use Rattle.adducts.proofs.WeighedSums.{weigh, weigh-cons}
-use Rattle.adducts.proofs.ItemLists.{Distinct, parts-Distinct, count_in-absent, own-counts, has_item-filter, Distinct-filter, Distinct-anew, Distinct-append, has_item-anew_at, sum-entries}
+use Rattle.adducts.proofs.ItemLists.{Distinct, parts-Distinct, count_in-absent, own-counts, has_item-filter}
+use Rattle.adducts.proofs.ItemLists.{Distinct-filter, Distinct-anew, Distinct-append, has_item-anew_at, sum-entries}
 use Rattle.adducts.proofs.IonCounts.{distinct, others_of, few-lost, ion-counts, ion-weight, ion_of-is, ion_of-only}
 
 -- ---- a formula of items that stand once each

@@ -1,5 +1,6 @@
 -- What is kept of an adduct's text makes the answer.
-use Rattle.std.proofs.Common.{◌≡◌, ℕ, zero, suc, ℤ, pos, ◌-ℤ◌, ◌+◌, ◌-◌, ◌*◌, ◌^◌, ◌<◌, ◌≤◌, Bool, true, false, cond, ltb, List, [], ◌∷◌, ◌++◌, length, map, filter, refl, sym, ap, ◌∙◌, subst, arith}
+use Rattle.std.proofs.Common.{◌≡◌, ℕ, zero, suc, ℤ, pos, ◌-ℤ◌, ◌+◌, ◌-◌, ◌*◌, ◌^◌, ◌<◌, ◌≤◌, Bool, true, false, cond}
+use Rattle.std.proofs.Common.{ltb, List, [], ◌∷◌, ◌++◌, length, map, filter, refl, sym, ap, ◌∙◌, subst, arith}
 use Rattle.std.specs.Prelude.{Option, Some, None, Result, Ok, Err, IsTrue, is_some, not, ◌==◌, ◌||◌, ◌&&◌, nat_le, slice_get, option_map, MatchBool, ⊤}
 use Rattle.std.specs.List.{AllByRecursion, flat_map, find}
 use Rattle.std.proofs.lemmas.Bool.{and_parts, leb-true, lt-ltb}
@@ -26,8 +27,12 @@ use Rattle.adducts.specs.declared.written.WrittenAdduct.{WrittenAdduct}
 use Rattle.adducts.specs.AdductFaults.{is_memory}
 use Rattle.adducts.specs.Adducts.{AdductValue}
 use Rattle.adducts.specs.AdductTexts.{WrittenTerm, WrittenIon, IsTerm, IsPlainPart, IsAdductOf, minus, term_text}
-use Rattle.adducts.specs.AdductReadings.{number_or_one, term_counts, is_lost, terms_of, added_counts, lost_counts, copies_of, charge_of, is_charge_right, placed_row, placed_term, placed_terms, placed_parts, unknown_places, faults_of}
-use Rattle.adducts.specs.AdductReader.{Nothing, read_from, adduct_in, unless_faults, answer_of, adduct_of, capped, kept_part, kept_row, kept_terms, kept_parts, kept_charge, is_unknown, unknown_part, part_count}
+use Rattle.adducts.specs.AdductReadings.{number_or_one, term_counts, is_lost, terms_of, added_counts, lost_counts}
+use Rattle.adducts.specs.AdductReadings.{copies_of, charge_of, is_charge_right, placed_row, placed_term, placed_terms}
+use Rattle.adducts.specs.AdductReadings.{placed_parts, unknown_places, faults_of}
+use Rattle.adducts.specs.AdductReader.{Nothing, read_from, adduct_in, unless_faults, answer_of, adduct_of, capped}
+use Rattle.adducts.specs.AdductReader.{kept_part, kept_row, kept_terms, kept_parts, kept_charge, is_unknown}
+use Rattle.adducts.specs.AdductReader.{unknown_part, part_count}
 use Rattle.adducts.specs.KeptAnswers.{both_within, charge_in, adduct_with}
 use Rattle.adducts.specs.Progress.{BadAt, IsKept}
 use Rattle.adducts.proofs.ReadTexts.{read-whole}

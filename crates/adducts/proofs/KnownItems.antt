@@ -18,7 +18,8 @@ use Rattle.adducts.specs.declared.fault.AdductFault.TheVariants.{UnknownSymbol}
 use Rattle.adducts.specs.AdductFaults.{is_memory}
 use Rattle.adducts.specs.Adducts.{AdductValue}
 use Rattle.adducts.specs.AdductTexts.{WrittenTerm, WrittenIon, IsTerm, IsPlainPart, IsAdductOf, term_text}
-use Rattle.adducts.specs.AdductReadings.{AdductReading, number_or_one, term_counts, is_lost, terms_of, added_counts, lost_counts, placed_row, placed_term, placed_terms, unknown_places, faults_of}
+use Rattle.adducts.specs.AdductReadings.{AdductReading, number_or_one, term_counts, is_lost, terms_of, added_counts}
+use Rattle.adducts.specs.AdductReadings.{lost_counts, placed_row, placed_term, placed_terms, unknown_places, faults_of}
 use Rattle.adducts.specs.AdductReader.{adduct_of}
 use Rattle.adducts.proofs.OneReading.{reading-meaning}
 

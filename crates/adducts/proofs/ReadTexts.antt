@@ -1,5 +1,6 @@
 -- What is read of a text is an adduct of the grammar with this text.
-use Rattle.std.proofs.Common.{◌≡◌, ℕ, ◌+◌, ◌<◌, Bool, true, false, cond, ltb, List, [], ◌∷◌, ◌++◌, length, refl, sym, ap, ◌∙◌, subst, arith, append_assoc, append-nil, length-append}
+use Rattle.std.proofs.Common.{◌≡◌, ℕ, ◌+◌, ◌<◌, Bool, true, false, cond, ltb, List, [], ◌∷◌, ◌++◌, length, refl, sym}
+use Rattle.std.proofs.Common.{ap, ◌∙◌, subst, arith, append_assoc, append-nil, length-append}
 use Rattle.std.specs.Prelude.{Option, Some, None, Result, Ok, Err, IsTrue, IfSome, ◌&&◌, ◌==◌}
 use Rattle.std.specs.List.{AllByRecursion, flat_map}
 use Rattle.std.specs.Char.{is_ascii_digit}
@@ -11,7 +12,9 @@ use Rattle.element_table.specs.SymbolText.{is_symbol, is_capital, is_small}
 use Rattle.written_items.specs.WrittenItems.{are_digits}
 use Rattle.written_items.specs.WrittenRows.{WrittenPart, part_text, row_text}
 use Rattle.adducts.specs.AdductTexts.{WrittenTerm, WrittenIon, IsPlainPart, IsTerm, IsWrittenIon, IsAdductOf, is_sign, term_text, ion_text, adduct_text}
-use Rattle.adducts.specs.AdductReader.{Reading, Nothing, Neutral, Copies, Terms, Coefficient, Row, Part, Charge, Whole, plain_part, with_part, new_term, step_terms, step_row, step, at_end, read_on, read_from}
+use Rattle.adducts.specs.AdductReader.{Reading, Nothing, Neutral, Copies, Terms, Coefficient, Row, Part, Charge, Whole}
+use Rattle.adducts.specs.AdductReader.{plain_part, with_part, new_term, step_terms, step_row, step, at_end, read_on}
+use Rattle.adducts.specs.AdductReader.{read_from}
 use Rattle.adducts.proofs.ReadingSteps.{read-byte, read-end}
 
 -- the text up to the terms

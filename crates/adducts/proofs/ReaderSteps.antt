@@ -1,5 +1,7 @@
 -- One step of each reader of a part of an adduct's text.
-use Rattle.std.proofs.Common.{◌≡◌, ℕ, ◌+◌, ◌-◌, ◌*◌, ◌<◌, ◌≤◌, Bool, true, false, cond, ltb, List, [], ◌∷◌, ◌++◌, length, map, drop, get_or, refl, sym, ap, ◌∙◌, subst, arith, append_assoc, append-nil, length-append}
+use Rattle.std.proofs.Common.{◌≡◌, ℕ, ◌+◌, ◌-◌, ◌*◌, ◌<◌, ◌≤◌, Bool, true, false, cond, ltb, List, [], ◌∷◌, ◌++◌}
+use Rattle.std.proofs.Common.{length, map, drop, get_or, refl, sym, ap, ◌∙◌, subst, arith, append_assoc, append-nil}
+use Rattle.std.proofs.Common.{length-append}
 use Rattle.std.specs.Prelude.{Option, Some, None, Result, Ok, Err, ◌&&◌, ◌==◌}
 use Rattle.std.specs.Char.{is_ascii_digit}
 use Rattle.std.specs.List.{flat_map}
@@ -14,9 +16,11 @@ use Rattle.adducts.specs.declared.written.WrittenCharge.{WrittenCharge}
 use Rattle.adducts.specs.declared.written.Factor.{Factor}
 use Rattle.adducts.specs.AdductTexts.{WrittenTerm, WrittenIon, minus, is_sign, term_text}
 use Rattle.adducts.specs.AdductReadings.{number_or_one, placed_row}
-use Rattle.adducts.specs.AdductReader.{Reading, Terms, Row, Part, Charge, Whole, plain_part, with_part, new_term, step, read_from, capped, kept_terms, kept_row, kept_part}
+use Rattle.adducts.specs.AdductReader.{Reading, Terms, Row, Part, Charge, Whole, plain_part, with_part, new_term, step}
+use Rattle.adducts.specs.AdductReader.{read_from, capped, kept_terms, kept_row, kept_part}
 use Rattle.adducts.specs.Progress.{IsRowTo, IsWholeRowTo, AreTermsTo, IsChargeTo, kept_by, term_with}
-use Rattle.adducts.proofs.ReadingSteps.{read-end, read-goes_on, read-stops, read-coefficient, read-count, read-number, read-symbol, read-part, read-new_term, read-whole_term, read-no_part, read-sign}
+use Rattle.adducts.proofs.ReadingSteps.{read-end, read-goes_on, read-stops, read-coefficient, read-count, read-number}
+use Rattle.adducts.proofs.ReadingSteps.{read-symbol, read-part, read-new_term, read-whole_term, read-no_part, read-sign}
 use Rattle.adducts.proofs.TextPlaces.{DigitsAt, SymbolAt, byte_at, byte_is, no_byte}
 use Rattle.adducts.proofs.KeptNumbers.{capped-product}
 

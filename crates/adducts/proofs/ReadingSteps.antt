@@ -9,7 +9,8 @@ use Rattle.element_table.specs.SymbolText.{is_symbol, is_capital, is_small}
 use Rattle.written_items.specs.WrittenItems.{are_digits, begins, EndsSymbol}
 use Rattle.written_items.proofs.ByteKinds.{digit-small, capital-digit}
 use Rattle.adducts.specs.AdductTexts.{WrittenTerm, WrittenIon, is_sign}
-use Rattle.adducts.specs.AdductReader.{Reading, Copies, Terms, Coefficient, Row, Part, Charge, plain_part, with_part, new_term, step_terms, step_row, step, at_end, read_on, read_from}
+use Rattle.adducts.specs.AdductReader.{Reading, Copies, Terms, Coefficient, Row, Part, Charge, plain_part, with_part}
+use Rattle.adducts.specs.AdductReader.{new_term, step_terms, step_row, step, at_end, read_on, read_from}
 
 pub read-byte : (byte : ℕ) (rest : List ℕ) (reading : Reading) (at : ℕ)
     → read_from (byte ∷ rest) reading at ≡ read_on (step reading byte) at (λ next. read_from rest next (at + 1))

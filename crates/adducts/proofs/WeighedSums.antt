@@ -1,5 +1,6 @@
 -- Lists of items with equal counts weigh the same, whatever an atom of each item weighs.
-use Rattle.std.proofs.Common.{◌≡◌, ℕ, ◌+◌, ◌*◌, ◌<◌, Bool, true, false, cond, ltb, T, List, [], ◌∷◌, ◌++◌, map, filter, sum_by, fold, refl, sym, ap, subst, ◌∙◌, arith}
+use Rattle.std.proofs.Common.{◌≡◌, ℕ, ◌+◌, ◌*◌, ◌<◌, Bool, true, false, cond, ltb, T, List, [], ◌∷◌, ◌++◌, map, filter}
+use Rattle.std.proofs.Common.{sum_by, fold, refl, sym, ap, subst, ◌∙◌, arith}
 use Rattle.std.specs.declared.cmp.Ordering.TheVariants.{Less, Equal, Greater}
 use Rattle.std.specs.Ordering.{is_lt}
 use Rattle.std.specs.FinMap.{put, is_sorted}

@@ -1,5 +1,6 @@
 -- A text of the grammar is read as the adduct that it is.
-use Rattle.std.proofs.Common.{◌≡◌, ℕ, ◌+◌, ◌<◌, Bool, true, false, cond, ltb, List, [], ◌∷◌, ◌++◌, length, refl, sym, ap, ◌∙◌, subst, arith, append_assoc, append-nil, length-append}
+use Rattle.std.proofs.Common.{◌≡◌, ℕ, ◌+◌, ◌<◌, Bool, true, false, cond, ltb, List, [], ◌∷◌, ◌++◌, length, refl, sym}
+use Rattle.std.proofs.Common.{ap, ◌∙◌, subst, arith, append_assoc, append-nil, length-append}
 use Rattle.std.specs.Prelude.{Option, Some, None, Result, Ok, Err, IsTrue, IfSome, ◌&&◌, ◌==◌}
 use Rattle.std.specs.List.{AllByRecursion, flat_map}
 use Rattle.std.specs.Char.{is_ascii_digit}
@@ -13,8 +14,10 @@ use Rattle.written_items.proofs.ByteKinds.{capital-digit}
 use Rattle.written_items.proofs.LeadingSymbols.{begins-symbol}
 use Rattle.adducts.specs.AdductTexts.{WrittenTerm, WrittenIon, IsPlainPart, IsTerm, IsWrittenIon, IsAdductOf, is_sign, term_text, ion_text, adduct_text}
 use Rattle.adducts.specs.Progress.{term_with}
-use Rattle.adducts.specs.AdductReader.{Reading, Nothing, Neutral, Copies, Terms, Coefficient, Row, Part, Charge, Whole, plain_part, with_part, new_term, step, read_from}
-use Rattle.adducts.proofs.ReadingSteps.{read-end, read-goes_on, read-copies, read-coefficient, read-count, read-number, read-symbol, read-part, read-new_term, read-whole_term, read-sign}
+use Rattle.adducts.specs.AdductReader.{Reading, Nothing, Neutral, Copies, Terms, Coefficient, Row, Part, Charge, Whole}
+use Rattle.adducts.specs.AdductReader.{plain_part, with_part, new_term, step, read_from}
+use Rattle.adducts.proofs.ReadingSteps.{read-end, read-goes_on, read-copies, read-coefficient, read-count, read-number}
+use Rattle.adducts.proofs.ReadingSteps.{read-symbol, read-part, read-new_term, read-whole_term, read-sign}
 
 -- the text goes on with neither a digit nor a letter
 pub record EndsPart (rest : List ℕ) : Type 0 where

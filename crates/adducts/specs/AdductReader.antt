@@ -1,6 +1,7 @@
 -- For proofs: the one answer that AdductReading allows, computed from the text byte by byte, and what the code keeps
 -- of it. The layers above compute with `adduct_of`.
-use Rattle.std.specs.Prelude.{ℕ, ◌+◌, ◌-◌, ◌*◌, ◌^◌, ◌<◌, min, Bool, ◌==◌, ◌&&◌, nat_lt, not, List, [], ◌∷◌, ◌++◌, length, map, filter, is_some, if◌then◌else◌, Option, Some, None, Result, Ok, Err}
+use Rattle.std.specs.Prelude.{ℕ, ◌+◌, ◌-◌, ◌*◌, ◌^◌, ◌<◌, min, Bool, ◌==◌, ◌&&◌, nat_lt, not, List, [], ◌∷◌, ◌++◌}
+use Rattle.std.specs.Prelude.{length, map, filter, is_some, if◌then◌else◌, Option, Some, None, Result, Ok, Err}
 use Rattle.std.specs.List.{find}
 use Rattle.std.specs.Char.{is_ascii_digit}
 use Rattle.element_table.specs.Elements.{TableEntries, element_of}

@@ -1,5 +1,7 @@
 -- What an adduct's text is read as with a table: the adduct, or the first fault.
-use Rattle.std.specs.Prelude.{ℕ, ℤ, pos, ◌-ℤ◌, ◌+◌, ◌*◌, ◌≡◌, ◌⊎◌, Bool, true, not, ◌==◌, ◌&&◌, ◌||◌, nat_le, List, [], ◌∷◌, ◌++◌, length, map, filter, slice_get, is_some, if◌then◌else◌, Option, Some, None, Result, Ok, Err}
+use Rattle.std.specs.Prelude.{ℕ, ℤ, pos, ◌-ℤ◌, ◌+◌, ◌*◌, ◌≡◌, ◌⊎◌, Bool, true, not, ◌==◌, ◌&&◌, ◌||◌, nat_le, List, []}
+use Rattle.std.specs.Prelude.{◌∷◌, ◌++◌, length, map, filter, slice_get, is_some, if◌then◌else◌, Option, Some, None}
+use Rattle.std.specs.Prelude.{Result, Ok, Err}
 use Rattle.std.specs.List.{flat_map}
 use Rattle.element_table.specs.Elements.{TableEntries, element_of}
 use Rattle.reader_answers.specs.BadPlaces.{IsBadPlace}

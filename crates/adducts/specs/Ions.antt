@@ -1,5 +1,6 @@
 -- The ion of a formula and an adduct, and its mass. Masses are in 10^-12 Da.
-use Rattle.std.specs.Prelude.{ℕ, ℤ, pos, ◌+◌, ◌-◌, ◌*◌, ◌≡◌, ◌≢◌, ◌≤◌, ◌-ℤ◌, ◌*ℤ◌, Bool, not, nat_le, List, ◌++◌, length, map, All, AllPairs, filter, if◌then◌else◌, Option, Some, None, option_map}
+use Rattle.std.specs.Prelude.{ℕ, ℤ, pos, ◌+◌, ◌-◌, ◌*◌, ◌≡◌, ◌≢◌, ◌≤◌, ◌-ℤ◌, ◌*ℤ◌, Bool, not, nat_le, List, ◌++◌}
+use Rattle.std.specs.Prelude.{length, map, All, AllPairs, filter, if◌then◌else◌, Option, Some, None, option_map}
 use Rattle.std.specs.List.{list_all, list_any}
 use Rattle.element_table.specs.Elements.{TableEntries}
 use Rattle.written_items.specs.declared.item.Item.{Item}

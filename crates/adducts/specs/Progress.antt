@@ -1,5 +1,6 @@
 -- For proofs alone: what the readers of the parts of an adduct's text give.
-use Rattle.std.specs.Prelude.{ℕ, ◌+◌, ◌*◌, ◌≡◌, ◌<◌, ◌≤◌, false, ◌==◌, List, [], ◌∷◌, ◌++◌, length, drop, map, Option, Some, None, Result, Ok, Err, MatchBool, ⊤}
+use Rattle.std.specs.Prelude.{ℕ, ◌+◌, ◌*◌, ◌≡◌, ◌<◌, ◌≤◌, false, ◌==◌, List, [], ◌∷◌, ◌++◌, length, drop, map, Option}
+use Rattle.std.specs.Prelude.{Some, None, Result, Ok, Err, MatchBool, ⊤}
 use Rattle.element_table.specs.SymbolText.{is_capital}
 use Rattle.written_items.specs.WrittenItems.{begins}
 use Rattle.written_items.specs.WrittenRows.{WrittenPart, row_text, count_of_tail}

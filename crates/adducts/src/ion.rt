@@ -11,7 +11,9 @@ ghost use Rattle.mass_scaling.specs.declared.limits.TheConstants.{MAX_COPIES};
 ghost use Rattle.adducts.specs.Adducts.{IsAdduct};
 ghost use Rattle.adducts.specs.Ions.{AreCounts, IsIonOf, ion_of, ion_mass, has_item, shift_of};
 ghost use Rattle.adducts.specs.AdductReader.{capped};
-ghost use Rattle.adducts.specs.IonTests.{entry_count, kept_counts, found_count, finds_what_is_lost, are_within_limits, has_few_atoms, has_few_of_each, has_few_of_own, has_few_of_others, has_few_items, own_items, other_items};
+ghost use Rattle.adducts.specs.IonTests.{entry_count, kept_counts, found_count, finds_what_is_lost, are_within_limits};
+ghost use Rattle.adducts.specs.IonTests.{has_few_atoms, has_few_of_each, has_few_of_own, has_few_of_others};
+ghost use Rattle.adducts.specs.IonTests.{has_few_items, own_items, other_items};
 
 use crate::adduct::Adduct;
 use element_table::Table;

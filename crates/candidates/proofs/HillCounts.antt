@@ -1,5 +1,6 @@
 -- The entries of an order with the counts of a list are the formula of the list.
-use Rattle.std.proofs.Common.{◌≡◌, ℕ, zero, ◌-◌, ◌<◌, ◌≤◌, Bool, true, false, cond, ltb, T, ◌⊎◌, inl, inr, List, [], ◌∷◌, length, map, get_or, refl, sym, ap, subst, ◌∙◌, arith}
+use Rattle.std.proofs.Common.{◌≡◌, ℕ, zero, ◌-◌, ◌<◌, ◌≤◌, Bool, true, false, cond, ltb, T, ◌⊎◌, inl, inr, List, []}
+use Rattle.std.proofs.Common.{◌∷◌, length, map, get_or, refl, sym, ap, subst, ◌∙◌, arith}
 use Rattle.std.specs.Prelude.{All, not}
 use Rattle.std.specs.List.{AllByRecursion, zip}
 use Rattle.std.specs.Ordering.{is_lt}
@@ -19,7 +20,9 @@ use Rattle.formula_text.proofs.CarbonAmongCounts.{has_carbon-same}
 use Rattle.adducts.specs.Ions.{has_item}
 use Rattle.adducts.proofs.ItemLists.{Distinct, own-counts, counted-anew, count_in-absent, sum-Distinct, sum-entries, Distinct-filter}
 use Rattle.candidates.specs.HillOrders.{numbered, is_carbon, others_of, counted, with_counts}
-use Rattle.candidates.proofs.NumberedItems.{IsApart, numbered-Distinct, at-most-number, at-number, none-counted, carbon-numbered, count_in-filter, others-no_carbon, no_carbon-counted, length-filtered, length-numbered}
+use Rattle.candidates.proofs.NumberedItems.{IsApart, numbered-Distinct, at-most-number, at-number, none-counted}
+use Rattle.candidates.proofs.NumberedItems.{carbon-numbered, count_in-filter, others-no_carbon, no_carbon-counted}
+use Rattle.candidates.proofs.NumberedItems.{length-filtered, length-numbered}
 
 -- ---- what an order is
 

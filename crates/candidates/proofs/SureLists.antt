@@ -1,5 +1,6 @@
 -- Windows in which each count list is a candidate, since no limit of a formula or of an ion is near.
-use Rattle.std.proofs.Common.{◌≡◌, ℕ, ◌+◌, ◌*◌, ◌/◌, ◌<◌, ◌≤◌, Bool, true, false, cond, ltb, T, inl, inr, List, [], ◌∷◌, length, map, fold, refl, sym, ap, ◌∙◌, arith, length-append}
+use Rattle.std.proofs.Common.{◌≡◌, ℕ, ◌+◌, ◌*◌, ◌/◌, ◌<◌, ◌≤◌, Bool, true, false, cond, ltb, T, inl, inr, List, [], ◌∷◌}
+use Rattle.std.proofs.Common.{length, map, fold, refl, sym, ap, ◌∙◌, arith, length-append}
 use Rattle.std.specs.Prelude.{All, None, Ok, is_some, nat_le, ◌==◌, ◌&&◌, not}
 use Rattle.std.specs.List.{AllByRecursion, list_all}
 use Rattle.std.specs.FinMap.{is_sorted, find}

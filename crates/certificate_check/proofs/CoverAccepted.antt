@@ -1,5 +1,6 @@
 -- The certificate of a formula's cover is accepted.
-use Rattle.std.proofs.Common.{◌≡◌, ℕ, zero, suc, ◌<◌, ◌≤◌, Bool, true, false, List, [], ◌∷◌, map, length, get_or, Some, None, refl, sym, ◌∙◌, ap, arith, All, append-nil}
+use Rattle.std.proofs.Common.{◌≡◌, ℕ, zero, suc, ◌<◌, ◌≤◌, Bool, true, false, List, [], ◌∷◌, map, length, get_or, Some}
+use Rattle.std.proofs.Common.{None, refl, sym, ◌∙◌, ap, arith, All, append-nil}
 use Rattle.std.specs.Prelude.{Option, is_none}
 use Rattle.std.specs.List.{concat, range_with_len}
 use Rattle.std.proofs.lemmas.Bool.{ltb-false}

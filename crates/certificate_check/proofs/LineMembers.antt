@@ -1,5 +1,6 @@
 -- The isotopologues of a certificate's lines, each of which has the text of one.
-use Rattle.std.proofs.Common.{◌≡◌, ℕ, ◌<◌, Bool, true, false, cond, List, [], ◌∷◌, ◌++◌, map, length, get_or, Some, None, refl, sym, ◌∙◌, ap, arith, All, append-nil, length-append, drop, ◌*◌, subst}
+use Rattle.std.proofs.Common.{◌≡◌, ℕ, ◌<◌, Bool, true, false, cond, List, [], ◌∷◌, ◌++◌, map, length, get_or, Some}
+use Rattle.std.proofs.Common.{None, refl, sym, ◌∙◌, ap, arith, All, append-nil, length-append, drop, ◌*◌, subst}
 use Rattle.std.specs.Prelude.{Option, flat_map, is_none, unwrap_or}
 use Rattle.std.specs.List.{concat, range_with_len}
 use Rattle.std.proofs.Math.Seq.{drop-append_seam}

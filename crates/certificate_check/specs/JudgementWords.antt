@@ -2,7 +2,10 @@
 use Rattle.std.specs.Prelude.{ℕ, List, ◌++◌, codes}
 use Rattle.std.specs.Fmt.{decimal}
 use Rattle.certificate_check.specs.declared.judgement.Judgement.{Judgement}
-use Rattle.certificate_check.specs.declared.judgement.Judgement.TheVariants.{Accepted, CoverageRange, TooManyMembers, NotOfFormula, OutOfOrder, ModeAbsent, OpenBoundary, SizeDiffers, CoverShort, BoundTooHigh}
+use Rattle.certificate_check.specs.declared.judgement.Judgement.TheVariants.{Accepted, CoverageRange, TooManyMembers}
+use Rattle.certificate_check.specs.declared.judgement.Judgement.TheVariants.{NotOfFormula, OutOfOrder, ModeAbsent}
+use Rattle.certificate_check.specs.declared.judgement.Judgement.TheVariants.{OpenBoundary, SizeDiffers, CoverShort}
+use Rattle.certificate_check.specs.declared.judgement.Judgement.TheVariants.{BoundTooHigh}
 
 -- the size that was said, and how many lines are marked
 abbrev pub size_words : ℕ → ℕ → List ℕ

@@ -1,6 +1,7 @@
 -- What is judged of a certificate: the first test that it fails. Coverages and totals are in units of 10^-18; lines are
 -- numbered from 1, and the first member stands on line 7.
-use Rattle.std.specs.Prelude.{ℕ, ◌+◌, Bool, ◌||◌, ◌==◌, nat_lt, List, [], length, map, find, slice_index_or, is_none, unwrap_or, Option, Some, None, if◌then◌else◌}
+use Rattle.std.specs.Prelude.{ℕ, ◌+◌, Bool, ◌||◌, ◌==◌, nat_lt, List, [], length, map, find, slice_index_or, is_none}
+use Rattle.std.specs.Prelude.{unwrap_or, Option, Some, None, if◌then◌else◌}
 use Rattle.std.specs.List.{range_with_len}
 use Rattle.isotopologue_sets.specs.Layers.{max_members}
 use Rattle.isotopologue_sets.specs.Coverage.{max_coverage}
@@ -15,7 +16,10 @@ use Rattle.cover_claims.specs.declared.fault.ClaimFault.{ClaimFault}
 use Rattle.cover_claims.specs.declared.fault.ClaimFault.TheVariants as fault
 use Rattle.isotopologue_text.specs.Isotopologues.{isotopologue_text_of}
 use Rattle.certificate_check.specs.declared.judgement.Judgement.{Judgement}
-use Rattle.certificate_check.specs.declared.judgement.Judgement.TheVariants.{Accepted, CoverageRange, TooManyMembers, NotOfFormula, OutOfOrder, ModeAbsent, OpenBoundary, SizeDiffers, CoverShort, BoundTooHigh}
+use Rattle.certificate_check.specs.declared.judgement.Judgement.TheVariants.{Accepted, CoverageRange, TooManyMembers}
+use Rattle.certificate_check.specs.declared.judgement.Judgement.TheVariants.{NotOfFormula, OutOfOrder, ModeAbsent}
+use Rattle.certificate_check.specs.declared.judgement.Judgement.TheVariants.{OpenBoundary, SizeDiffers, CoverShort}
+use Rattle.certificate_check.specs.declared.judgement.Judgement.TheVariants.{BoundTooHigh}
 
 -- the line of the member at a place
 abbrev pub line_of : ℕ → ℕ

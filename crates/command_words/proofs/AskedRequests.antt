@@ -1,5 +1,7 @@
 -- `request_of` is what words ask for, and the one answer that they may have.
-use Rattle.std.proofs.Common.{◌≡◌, ◌∙◌, ◌==◌, ℕ, Bool, true, false, if◌then◌else◌, List, [], ◌∷◌, find, map, Option, Some, None, is_some, is_none, Result, Ok, Err, ap, sym, refl, subst, inl, inr, option_map, length, arith, MatchBool, String, Global, string_bytes}
+use Rattle.std.proofs.Common.{◌≡◌, ◌∙◌, ◌==◌, ℕ, Bool, true, false, if◌then◌else◌, List, [], ◌∷◌, find, map, Option}
+use Rattle.std.proofs.Common.{Some, None, is_some, is_none, Result, Ok, Err, ap, sym, refl, subst, inl, inr, option_map}
+use Rattle.std.proofs.Common.{length, arith, MatchBool, String, Global, string_bytes}
 use Rattle.std.specs.List.{AllByRecursion, count_by, list_all}
 use Rattle.std.specs.Option.{option_map_or, option_or}
 use Rattle.std.specs.Prelude.{option_and_then, ⊤}
@@ -12,9 +14,13 @@ use Rattle.mass_scaling.specs.declared.tolerances.Tolerance.{Tolerance}
 use Rattle.mass_scaling.specs.declared.tolerances.Tolerance.TheVariants as tolerance
 use Rattle.command_words.specs.ClapCommands.{given_in}
 use Rattle.command_words.specs.Options.{Bytes, command_of, default_text, groups, kind, name, number_within, optional_groups, options, required_options, is_flag}
-use Rattle.command_words.specs.Requests.{Asks, IsReading, IsRequestOf, Values, ValuesAsk, first_outside, go_together, has_companion, has_one, has_one_at_most, has_value_outside, is_outside, number_of, text_of}
+use Rattle.command_words.specs.Requests.{Asks, IsReading, IsRequestOf, Values, ValuesAsk, first_outside, go_together}
+use Rattle.command_words.specs.Requests.{has_companion, has_one, has_one_at_most, has_value_outside, is_outside}
+use Rattle.command_words.specs.Requests.{number_of, text_of}
 use Rattle.command_words.specs.Uses.{Argument, Use, arguments, value_of, value_in}
-use Rattle.command_words.specs.WordReading.{answer_by, decompose_request, envelope_request, fields_request, is_memory, is_readable, matched, request_of, uses_of, values_request, check_request, rank_request, generate_request}
+use Rattle.command_words.specs.WordReading.{answer_by, decompose_request, envelope_request, fields_request, is_memory}
+use Rattle.command_words.specs.WordReading.{is_readable, matched, request_of, uses_of, values_request, check_request}
+use Rattle.command_words.specs.WordReading.{rank_request, generate_request}
 use Rattle.command_words.specs.declared.commands.CommandName.{CommandName}
 use Rattle.command_words.specs.declared.commands.CommandName.TheVariants as command
 use Rattle.command_words.specs.declared.fault.WordsFault.{WordsFault}

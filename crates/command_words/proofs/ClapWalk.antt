@@ -1,6 +1,8 @@
 -- clap's walk over readable words finds the uses that they make, and fails where they make none.
 use Rattle.clap.specs.declared.builder.value_parser.Reading.TheVariants.{AsWritten}
-use Rattle.std.proofs.Common.{◌≡◌, ◌∙◌, ℕ, Bool, true, false, not, ◌&&◌, ◌||◌, if◌then◌else◌, List, [], ◌∷◌, ◌++◌, map, fold, Option, Some, None, All, ap, ap₂, sym, refl, subst, nat_lt, is_some, drop, arith, ◌⊎◌, inl, inr, MatchBool, codes, find, option_map}
+use Rattle.std.proofs.Common.{◌≡◌, ◌∙◌, ℕ, Bool, true, false, not, ◌&&◌, ◌||◌, if◌then◌else◌, List, [], ◌∷◌, ◌++◌, map}
+use Rattle.std.proofs.Common.{fold, Option, Some, None, All, ap, ap₂, sym, refl, subst, nat_lt, is_some, drop, arith}
+use Rattle.std.proofs.Common.{◌⊎◌, inl, inr, MatchBool, codes, find, option_map}
 use Rattle.std.specs.Option.{option_map_or}
 use Rattle.std.specs.Prelude.{option_and_then, ◌==◌, ⊤}
 use Rattle.std.specs.Str.{bytes_eq}
@@ -10,11 +12,16 @@ use Rattle.std.proofs.lemmas.List.Elements.{All-drop, All-get_or}
 use Rattle.std.proofs.lemmas.Option.{none-some}
 use Rattle.std.proofs.lemmas.Slice.Eq.{bytes_eq-Decides}
 use Rattle.clap.specs.Lexer.{long_of, long_of_rest, short_of, short_of_rest, strip_byte}
-use Rattle.clap.specs.Walk.{Held, Row, Rule, Step, Text, Waiting, Walk, after_flag, after_step, arg_by_long, at_row, finished, has_row, idle, long_met, long_or_other, more_values, nothing_held, option, option_word, positional, reading_by, rows_after, settled, short_or_plain, trailing, used, used_by_id, walked, with_default, with_values, is_empty, default_rows, without}
+use Rattle.clap.specs.Walk.{Held, Row, Rule, Step, Text, Waiting, Walk, after_flag, after_step, arg_by_long, at_row}
+use Rattle.clap.specs.Walk.{finished, has_row, idle, long_met, long_or_other, more_values, nothing_held, option}
+use Rattle.clap.specs.Walk.{option_word, positional, reading_by, rows_after, settled, short_or_plain, trailing, used}
+use Rattle.clap.specs.Walk.{used_by_id, walked, with_default, with_values, is_empty, default_rows, without}
 use Rattle.clap.specs.Simple.{Shape, entered, matches_of, names_of}
 use Rattle.clap.specs.Kinds.{IsAmong, Kinds, check_kinds, or_else}
 use Rattle.clap.specs.Takes.{is_given}
-use Rattle.clap.specs.Faults.{built_fault, bundle_fault, check_fault, default_fault, defaults_fault, entered_fault, fault_of, flag_word_fault, given_default_fault, level_fault, long_fault, positional_fault, settle_fault, step_fault, stray_fault, turn_fault, use_fault, walk_fault}
+use Rattle.clap.specs.Faults.{built_fault, bundle_fault, check_fault, default_fault, defaults_fault, entered_fault}
+use Rattle.clap.specs.Faults.{fault_of, flag_word_fault, given_default_fault, level_fault, long_fault, positional_fault}
+use Rattle.clap.specs.Faults.{settle_fault, step_fault, stray_fault, turn_fault, use_fault, walk_fault}
 use Rattle.clap.specs.declared.parser.matches.ValueSource.TheVariants.{CommandLine, DefaultValue}
 use Rattle.clap.specs.declared.error.kind.ErrorKind.{ErrorKind}
 use Rattle.clap.specs.declared.error.kind.ErrorKind.TheVariants as kind

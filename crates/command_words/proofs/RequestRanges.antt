@@ -1,5 +1,6 @@
 -- The numbers of a request are in their ranges, and a fault numbers an option of the table.
-use Rattle.std.proofs.Common.{◌≡◌, ◌≤◌, ◌==◌, ◌||◌, ◌∙◌, not, ℕ, Bool, true, false, Option, Some, None, Result, Ok, Err, IfErr, IfOk, List, [], ◌∷◌, is_some, ap, arith, inl, inr, option_map, refl, subst, sym}
+use Rattle.std.proofs.Common.{◌≡◌, ◌≤◌, ◌==◌, ◌||◌, ◌∙◌, not, ℕ, Bool, true, false, Option, Some, None, Result, Ok, Err}
+use Rattle.std.proofs.Common.{IfErr, IfOk, List, [], ◌∷◌, is_some, ap, arith, inl, inr, option_map, refl, subst, sym}
 use Rattle.std.specs.List.{count_by}
 use Rattle.std.specs.Prelude.{option_and_then}
 use Rattle.std.specs.Option.{option_or}
@@ -22,7 +23,9 @@ use Rattle.command_words.specs.declared.fault.WordsFault.{WordsFault}
 use Rattle.command_words.specs.declared.fault.WordsFault.TheVariants.{Words, Value, Memory}
 use Rattle.command_words.specs.declared.options.OptionName.{OptionName}
 use Rattle.command_words.specs.declared.options.OptionName.TheVariants as option
-use Rattle.command_words.specs.declared.options.TheConstants.{MIN_MZ, MIN_COVERAGE, MAX_COVERAGE, MIN_LIMIT, MAX_LIMIT, MIN_PEAK, MAX_PEAK, MIN_TURN, MAX_TURN, DEFAULT_TURN, MAX_TURNS, MAX_NUMBER, OPTION_COUNT}
+use Rattle.command_words.specs.declared.options.TheConstants.{MIN_MZ, MIN_COVERAGE, MAX_COVERAGE, MIN_LIMIT, MAX_LIMIT}
+use Rattle.command_words.specs.declared.options.TheConstants.{MIN_PEAK, MAX_PEAK, MIN_TURN, MAX_TURN, DEFAULT_TURN}
+use Rattle.command_words.specs.declared.options.TheConstants.{MAX_TURNS, MAX_NUMBER, OPTION_COUNT}
 use Rattle.command_words.specs.declared.request.Request.{Request}
 use Rattle.command_words.specs.declared.request.Request.TheVariants.{Decompose, Envelope, Rank, Check, Generate}
 use Rattle.command_words.proofs.AskedRequests.{AreGood, companions, insides, number_given, ones}

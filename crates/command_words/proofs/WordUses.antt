@@ -1,5 +1,7 @@
 -- The uses that words make are those that `uses_of` reads, and no others.
-use Rattle.std.proofs.Common.{◌≡◌, ◌∙◌, ◌+◌, ℕ, zero, suc, Bool, true, false, not, ◌&&◌, ◌||◌, if◌then◌else◌, List, [], ◌∷◌, ◌++◌, length, drop, Option, Some, None, ap, ap₂, sym, refl, subst, inl, inr, arith, unwrap_or, position, find, option_map}
+use Rattle.std.proofs.Common.{◌≡◌, ◌∙◌, ◌+◌, ℕ, zero, suc, Bool, true, false, not, ◌&&◌, ◌||◌, if◌then◌else◌, List, []}
+use Rattle.std.proofs.Common.{◌∷◌, ◌++◌, length, drop, Option, Some, None, ap, ap₂, sym, refl, subst, inl, inr, arith}
+use Rattle.std.proofs.Common.{unwrap_or, position, find, option_map}
 use Rattle.std.specs.List.{AllByRecursion, after_first, before_first, list_all}
 use Rattle.std.specs.Prelude.{option_and_then, ◌==◌, ⊤}
 use Rattle.std.specs.Str.{bytes_eq}

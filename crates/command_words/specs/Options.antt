@@ -9,10 +9,15 @@ use Rattle.command_words.specs.declared.commands.CommandName.TheVariants.{Decomp
 use Rattle.command_words.specs.declared.commands.OptionGroup.{OptionGroup}
 use Rattle.command_words.specs.declared.commands.OptionGroup.TheVariants.{Sought, Tolerance, Form}
 use Rattle.command_words.specs.declared.options.OptionName.{OptionName}
-use Rattle.command_words.specs.declared.options.OptionName.TheVariants.{Table, Tracer, Mass, Peaks, Ppm, Da, PpmCalc, Alphabet, Adduct, Rules, Formula, Coverage, Limit, After, Peak, Turn, Turns, Certificate, Number, Json}
+use Rattle.command_words.specs.declared.options.OptionName.TheVariants.{Table, Tracer, Mass, Peaks, Ppm, Da, PpmCalc}
+use Rattle.command_words.specs.declared.options.OptionName.TheVariants.{Alphabet, Adduct, Rules, Formula, Coverage}
+use Rattle.command_words.specs.declared.options.OptionName.TheVariants.{Limit, After, Peak, Turn, Turns, Certificate}
+use Rattle.command_words.specs.declared.options.OptionName.TheVariants.{Number, Json}
 use Rattle.command_words.specs.declared.options.ValueKind.{ValueKind}
 use Rattle.command_words.specs.declared.options.ValueKind.TheVariants as value
-use Rattle.command_words.specs.declared.options.TheConstants.{MIN_MZ, MIN_COVERAGE, MAX_COVERAGE, MIN_LIMIT, MAX_LIMIT, MIN_PEAK, MAX_PEAK, MIN_TURN, MAX_TURN, DEFAULT_TURN, MAX_TURNS, MAX_NUMBER}
+use Rattle.command_words.specs.declared.options.TheConstants.{MIN_MZ, MIN_COVERAGE, MAX_COVERAGE, MIN_LIMIT, MAX_LIMIT}
+use Rattle.command_words.specs.declared.options.TheConstants.{MIN_PEAK, MAX_PEAK, MIN_TURN, MAX_TURN, DEFAULT_TURN}
+use Rattle.command_words.specs.declared.options.TheConstants.{MAX_TURNS, MAX_NUMBER}
 
 -- a word, a name or a value, as the list of its bytes
 abbrev pub Bytes : Type 0

@@ -7,7 +7,8 @@ use Rattle.mass_scaling.specs.Limits.{IsTolerance}
 use Rattle.mass_scaling.specs.declared.limits.TheConstants.{MAX_MZ}
 use Rattle.mass_scaling.specs.declared.tolerances.Tolerance.{Tolerance}
 use Rattle.mass_scaling.specs.declared.tolerances.Tolerance.TheVariants as tolerance
-use Rattle.command_words.specs.Options.{Bytes, command_of, companion, default_number, default_text, group_options, groups, kind, number, number_within, optional_groups, options, required_options}
+use Rattle.command_words.specs.Options.{Bytes, command_of, companion, default_number, default_text, group_options}
+use Rattle.command_words.specs.Options.{groups, kind, number, number_within, optional_groups, options, required_options}
 use Rattle.command_words.specs.Uses.{Use, GivesValues, value_of}
 use Rattle.command_words.specs.declared.commands.CommandName.{CommandName}
 use Rattle.command_words.specs.declared.commands.CommandName.TheVariants as command
@@ -18,7 +19,9 @@ use Rattle.command_words.specs.declared.options.OptionName.{OptionName}
 use Rattle.command_words.specs.declared.options.OptionName.TheVariants as option
 use Rattle.command_words.specs.declared.options.ValueKind.{ValueKind}
 use Rattle.command_words.specs.declared.options.ValueKind.TheVariants.{Text}
-use Rattle.command_words.specs.declared.options.TheConstants.{MIN_MZ, MIN_COVERAGE, MAX_COVERAGE, MIN_LIMIT, MAX_LIMIT, MIN_PEAK, MAX_PEAK, MIN_TURN, MAX_TURN, MAX_TURNS, MAX_NUMBER, OPTION_COUNT}
+use Rattle.command_words.specs.declared.options.TheConstants.{MIN_MZ, MIN_COVERAGE, MAX_COVERAGE, MIN_LIMIT, MAX_LIMIT}
+use Rattle.command_words.specs.declared.options.TheConstants.{MIN_PEAK, MAX_PEAK, MIN_TURN, MAX_TURN, MAX_TURNS}
+use Rattle.command_words.specs.declared.options.TheConstants.{MAX_NUMBER, OPTION_COUNT}
 use Rattle.command_words.specs.declared.request.Request.{Request}
 use Rattle.command_words.specs.declared.request.Request.TheVariants.{Decompose, Envelope, Rank, Check, Generate}
 

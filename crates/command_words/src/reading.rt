@@ -4,7 +4,9 @@ ghost use Rattle.std.specs.List.{list_all};
 ghost use Rattle.reader_answers.specs.Answers.{Gives};
 ghost use Rattle.clap.specs.Words.{found_of};
 ghost use Rattle.command_words.specs.Requests.{Asks, HasRanges, IsOfTable};
-ghost use Rattle.command_words.specs.WordReading.{check_request, decompose_request, envelope_request, generate_request, rank_request, is_memory, is_readable, matched, request_of, values_request};
+ghost use Rattle.command_words.specs.WordReading.{check_request, decompose_request, envelope_request, generate_request};
+ghost use Rattle.command_words.specs.WordReading.{rank_request, is_memory, is_readable, matched, request_of};
+ghost use Rattle.command_words.specs.WordReading.{values_request};
 ghost use Rattle.command_words.specs.declared.fault.WordsFault.{WordsFault};
 ghost use Rattle.command_words.specs.declared.request.Request.{Request};
 

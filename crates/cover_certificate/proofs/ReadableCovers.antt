@@ -1,6 +1,7 @@
 -- The certificate of a formula's cover can be read again: no number of the cover is above 10^18, and the texts of its
 -- isotopologues have no control characters.
-use Rattle.std.proofs.Common.{◌≡◌, ℕ, ◌+◌, ◌/◌, ◌^◌, ◌<◌, ◌≤◌, ◌==◌, Bool, true, false, cond, Option, Some, None, List, [], ◌∷◌, ◌++◌, map, length, refl, sym, ◌∙◌, ap, arith, All}
+use Rattle.std.proofs.Common.{◌≡◌, ℕ, ◌+◌, ◌/◌, ◌^◌, ◌<◌, ◌≤◌, ◌==◌, Bool, true, false, cond, Option, Some, None, List}
+use Rattle.std.proofs.Common.{[], ◌∷◌, ◌++◌, map, length, refl, sym, ◌∙◌, ap, arith, All}
 use Rattle.std.specs.Prelude.{IsTrue, is_some, sum}
 use Rattle.std.specs.List.{AllByRecursion, concat, list_any}
 use Rattle.std.specs.Str.{bytes_eq}
@@ -24,7 +25,9 @@ use Rattle.isotopologue_sets.proofs.CoverClaims.{cover-claims}
 use Rattle.isotopologue_sets.proofs.CoverMembers.{cover-isotopologues}
 use Rattle.isotopologue_sets.proofs.FirstThreshold.{last_threshold_for-halved, threshold_at-falls, threshold_at-last}
 use Rattle.isotopologue_sets.proofs.LayerLaws.{ordered_layer-IsPermutation}
-use Rattle.isotopologue_text.specs.Isotopologues.{IsIsotopologueOf, counts_text, dash, element_in, formula_elements, is_plain, plain_items, isotope_items, isotope_text, isotopologue_text_of}
+use Rattle.isotopologue_text.specs.Isotopologues.{IsIsotopologueOf, counts_text, dash, element_in, formula_elements}
+use Rattle.isotopologue_text.specs.Isotopologues.{is_plain, plain_items, isotope_items, isotope_text}
+use Rattle.isotopologue_text.specs.Isotopologues.{isotopologue_text_of}
 use Rattle.isotopologue_text.proofs.ApartIsotopes.{AreKnown, formula-apart, plain-known}
 use Rattle.isotopologue_text.proofs.CountsLemmas.{counts-few}
 use Rattle.isotopologue_text.proofs.ElementLimits.{AreElements-formula_elements}

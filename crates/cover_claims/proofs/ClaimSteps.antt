@@ -8,7 +8,9 @@ use Rattle.isotopologue_neighbours.specs.Closed.{greatest_total}
 use Rattle.cover_claims.specs.declared.claim.ClaimNumbers.{ClaimNumbers}
 use Rattle.cover_claims.specs.declared.fault.ClaimFault.{ClaimFault}
 use Rattle.cover_claims.specs.declared.fault.ClaimFault.TheVariants.{OutOfOrder, ModeAbsent, SizeDiffers, CoverShort, BoundTooHigh}
-use Rattle.cover_claims.specs.Claims.{Claimed, isotopologues_in, marked_in, is_member, first_misplaced, order_fault, mode_fault, boundary_fault, size_fault, cover_fault, bound_fault, first_fault, claim_fault}
+use Rattle.cover_claims.specs.Claims.{Claimed, isotopologues_in, marked_in, is_member, first_misplaced, order_fault}
+use Rattle.cover_claims.specs.Claims.{mode_fault, boundary_fault, size_fault, cover_fault, bound_fault, first_fault}
+use Rattle.cover_claims.specs.Claims.{claim_fault}
 
 found : (o : Option ClaimFault) (others : List (Option ClaimFault)) (f : ClaimFault) → o ≡ Some f →
     first_fault (o ∷ others) ≡ Some f

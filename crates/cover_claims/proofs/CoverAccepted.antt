@@ -1,5 +1,6 @@
 -- The claim that a cover makes fails no test.
-use Rattle.std.proofs.Common.{◌≡◌, ℕ, zero, suc, ◌+◌, ◌-◌, ◌*◌, ◌/◌, ◌^◌, ◌<◌, ◌≤◌, Bool, true, false, ltb, leb, List, [], ◌∷◌, map, length, take, get_or, sum, None, refl, ◌∙◌, ap, arith, All, ⊎_elim}
+use Rattle.std.proofs.Common.{◌≡◌, ℕ, zero, suc, ◌+◌, ◌-◌, ◌*◌, ◌/◌, ◌^◌, ◌<◌, ◌≤◌, Bool, true, false, ltb, leb, List}
+use Rattle.std.proofs.Common.{[], ◌∷◌, map, length, take, get_or, sum, None, refl, ◌∙◌, ap, arith, All, ⊎_elim}
 use Rattle.std.specs.Prelude.{◌&&◌, Contains, filter, find}
 use Rattle.std.specs.List.{range_with_len}
 use Rattle.std.proofs.Math.Nat.{div-mul-le_self, pow-le-pow_right, mul-le-mul_left}
@@ -12,18 +13,21 @@ use Rattle.sorted_lists.proofs.SortedListLaws.{IsPermutation-sorted_by, IsSorted
 use Rattle.sorted_lists.specs.SortedLists.{sorted_by}
 use Rattle.multinomial_bounds.specs.Isotopologue.{Element, IsIsotopologue}
 use Rattle.multinomial_bounds.proofs.EnclosureLemmas.{IsEnclosure-isotopologue}
-use Rattle.isotopologue_sets.specs.Layers.{AreElements, hi_of, lo_total, layer, mode_of_each, mode_hi, threshold_at, reaching_threshold, has_too_many, last_threshold_for}
+use Rattle.isotopologue_sets.specs.Layers.{AreElements, hi_of, lo_total, layer, mode_of_each, mode_hi, threshold_at}
+use Rattle.isotopologue_sets.specs.Layers.{reaching_threshold, has_too_many, last_threshold_for}
 use Rattle.isotopologue_sets.specs.Coverage.{max_coverage}
 use Rattle.isotopologue_sets.specs.Covers.{stands_before, ordered_layer, size_for, bound_for, cover_numbers}
 use Rattle.isotopologue_sets.proofs.FewestLaws.{fewest-within, fewest-below, fewest-reaches}
 use Rattle.isotopologue_sets.proofs.CoverOrder.{stands_before-IsStrictOrder}
-use Rattle.isotopologue_sets.proofs.LayerLaws.{ordered_layer-IsIsotopologue, ordered_layer-above, ordered_layer-distinct, ordered_layer-cases, lo_total-ordered_layer}
+use Rattle.isotopologue_sets.proofs.LayerLaws.{ordered_layer-IsIsotopologue, ordered_layer-above}
+use Rattle.isotopologue_sets.proofs.LayerLaws.{ordered_layer-distinct, ordered_layer-cases, lo_total-ordered_layer}
 use Rattle.isotopologue_sets.proofs.AllReach.{reaching_threshold-last, reaching_threshold-reaches}
 use Rattle.isotopologue_sets.proofs.FirstThreshold.{last_threshold_for-halved}
 use Rattle.isotopologue_sets.proofs.CoverMembers.{counts_are}
 use Rattle.isotopologue_sets.proofs.CoverClaims.{cover-claims}
 use Rattle.isotopologue_neighbours.specs.Closed.{greatest_above, greatest_total}
-use Rattle.cover_claims.specs.Claims.{isotopologues_in, marked_in, member_at, is_member, is_misplaced, first_misplaced, exits, is_left_out, first_left_out, claim_fault}
+use Rattle.cover_claims.specs.Claims.{isotopologues_in, marked_in, member_at, is_member, is_misplaced, first_misplaced}
+use Rattle.cover_claims.specs.Claims.{exits, is_left_out, first_left_out, claim_fault}
 use Rattle.cover_claims.specs.CoverClaims.{with_mark, first_marked, claimed_by_cover, numbers_of_cover}
 use Rattle.cover_claims.proofs.FindLemmas.{is_member-Decides}
 use Rattle.cover_claims.proofs.ModeRow.{modes-IsIsotopologue}

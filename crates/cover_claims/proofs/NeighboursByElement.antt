@@ -1,5 +1,7 @@
 -- The neighbours of an isotopologue, one element after another, and its counts by an element.
-use Rattle.std.proofs.Common.{◌≡◌, ℕ, ◌+◌, ◌<◌, ◌≤◌, List, [], ◌∷◌, ◌++◌, map, length, take, drop, get_or, refl, sym, ◌∙◌, ap, arith, All, Some, None, append_assoc, append-nil, drop-cons, add-one, length-append, length-drop}
+use Rattle.std.proofs.Common.{◌≡◌, ℕ, ◌+◌, ◌<◌, ◌≤◌, List, [], ◌∷◌, ◌++◌, map, length, take, drop, get_or, refl, sym}
+use Rattle.std.proofs.Common.{◌∙◌, ap, arith, All, Some, None, append_assoc, append-nil, drop-cons, add-one}
+use Rattle.std.proofs.Common.{length-append, length-drop}
 use Rattle.std.specs.Prelude.{find, Option}
 use Rattle.std.specs.List.{concat}
 use Rattle.std.proofs.Math.Seq.{take-append_seam, drop-append_seam}

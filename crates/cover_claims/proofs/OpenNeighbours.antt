@@ -1,5 +1,6 @@
 -- The isotopologue that an open boundary names is one of the elements.
-use Rattle.std.proofs.Common.{◌≡◌, ℕ, Bool, true, false, cond, List, [], ◌∷◌, Some, None, refl, sym, ap, arith, All, length, map, subst, eqb, ltb, leb, ◌-◌, ◌+◌, ◌≤◌, zero, suc}
+use Rattle.std.proofs.Common.{◌≡◌, ℕ, Bool, true, false, cond, List, [], ◌∷◌, Some, None, refl, sym, ap, arith, All}
+use Rattle.std.proofs.Common.{length, map, subst, eqb, ltb, leb, ◌-◌, ◌+◌, ◌≤◌, zero, suc}
 use Rattle.std.specs.Prelude.{Option, ◌&&◌, find, unwrap_or}
 use Rattle.std.specs.List.{concat, range_with_len}
 use Rattle.std.specs.Option.{option_map}
@@ -14,7 +15,9 @@ use Rattle.isotopologue_neighbours.proofs.MoveLemmas.{neighbours_of-IsIsotopolog
 use Rattle.cover_claims.specs.declared.claim.ClaimNumbers.{ClaimNumbers}
 use Rattle.cover_claims.specs.declared.fault.ClaimFault.{ClaimFault}
 use Rattle.cover_claims.specs.declared.fault.ClaimFault.TheVariants as fault
-use Rattle.cover_claims.specs.Claims.{Claimed, isotopologues_in, marked_in, member_at, is_member, is_left_out, exits, first_left_out, is_misplaced, first_misplaced, order_fault, mode_fault, boundary_fault, size_fault, cover_fault, bound_fault, first_fault, claim_fault}
+use Rattle.cover_claims.specs.Claims.{Claimed, isotopologues_in, marked_in, member_at, is_member, is_left_out, exits}
+use Rattle.cover_claims.specs.Claims.{first_left_out, is_misplaced, first_misplaced, order_fault, mode_fault}
+use Rattle.cover_claims.specs.Claims.{boundary_fault, size_fault, cover_fault, bound_fault, first_fault, claim_fault}
 use Rattle.cover_claims.specs.FaultNames.{NamesIsotopologue, IfNames}
 use Rattle.cover_claims.proofs.FindLemmas.{some≢none}
 

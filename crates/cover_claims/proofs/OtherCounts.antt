@@ -1,6 +1,7 @@
 -- A member with other counts of one element, as many of as many isotopes: its counts in a row, its bounds, and whether it
 -- was left out.
-use Rattle.std.proofs.Common.{◌≡◌, ℕ, ◌<◌, ◌≤◌, Bool, true, false, ltb, List, [], ◌∷◌, ◌++◌, length, get_or, set, sum, Some, None, refl, sym, ◌∙◌, ap, arith, All, append-nil}
+use Rattle.std.proofs.Common.{◌≡◌, ℕ, ◌<◌, ◌≤◌, Bool, true, false, ltb, List, [], ◌∷◌, ◌++◌, length, get_or, set, sum}
+use Rattle.std.proofs.Common.{Some, None, refl, sym, ◌∙◌, ap, arith, All, append-nil}
 use Rattle.std.specs.Prelude.{Option}
 use Rattle.std.specs.List.{concat}
 use Rattle.std.proofs.lemmas.Bool.{lt-ltb, le-ltb}

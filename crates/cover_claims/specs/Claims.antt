@@ -1,6 +1,7 @@
 -- What is claimed of a list of isotopologues, and the first test that a claim fails. Coverages, thresholds and bounds of
 -- probabilities are in units of 10^-18. The place of a member is the number of members before it.
-use Rattle.std.specs.Prelude.{ℕ, ◌-◌, Bool, not, ◌&&◌, ◌==◌, nat_lt, nat_le, List, [], ◌∷◌, length, map, filter, flat_map, find, Option, Some, None, slice_index_or, if◌then◌else◌}
+use Rattle.std.specs.Prelude.{ℕ, ◌-◌, Bool, not, ◌&&◌, ◌==◌, nat_lt, nat_le, List, [], ◌∷◌, length, map, filter}
+use Rattle.std.specs.Prelude.{flat_map, find, Option, Some, None, slice_index_or, if◌then◌else◌}
 use Rattle.std.specs.List.{range_with_len, list_any, concat}
 use Rattle.std.specs.Cmp.Lexicographic.{pointwise}
 use Rattle.std.specs.Option.{option_map}

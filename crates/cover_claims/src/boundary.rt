@@ -1,6 +1,7 @@
 //! The neighbours of members that a claim left out.
 
-ghost use Rattle.std.specs.Prelude.{◌≡◌, ◌+◌, ◌-◌, ◌<◌, ◌≤◌, ◌≢◌, ◌∷◌, ◌++◌, [], None, All, IfOk, OnOk, List, ℕ, length, map, filter, find, not, ◌==◌, slice_index, slice_set, sum};
+ghost use Rattle.std.specs.Prelude.{◌≡◌, ◌+◌, ◌-◌, ◌<◌, ◌≤◌, ◌≢◌, ◌∷◌, ◌++◌, [], None, All, IfOk, OnOk, List, ℕ};
+ghost use Rattle.std.specs.Prelude.{length, map, filter, find, not, ◌==◌, slice_index, slice_set, sum};
 ghost use Rattle.multinomial_bounds.specs.Bounds.{floor_of, ceiling_of, product_of};
 ghost use Rattle.multinomial_bounds.specs.Weight.{IsCounts};
 ghost use Rattle.multinomial_bounds.specs.Isotopologue.{bounds_of};

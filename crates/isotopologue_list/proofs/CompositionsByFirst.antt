@@ -1,5 +1,6 @@
 -- Compositions by their first counts.
-use Rattle.std.proofs.Common.{◌≡◌, ℕ, zero, suc, ◌+◌, ◌-◌, ◌<◌, ◌≤◌, length, take, set, length-set, List, [], ◌∷◌, ◌++◌, map, refl, sym, ◌∙◌, ap, arith, append_assoc, false, eqb}
+use Rattle.std.proofs.Common.{◌≡◌, ℕ, zero, suc, ◌+◌, ◌-◌, ◌<◌, ◌≤◌, length, take, set, length-set, List, [], ◌∷◌, ◌++◌}
+use Rattle.std.proofs.Common.{map, refl, sym, ◌∙◌, ap, arith, append_assoc, false, eqb}
 use Rattle.std.specs.Prelude.{flat_map}
 use Rattle.std.proofs.lemmas.List.{append-nil, take_all, take_more_set, take-set, take-take}
 use Rattle.std.specs.List.{range_with_len}

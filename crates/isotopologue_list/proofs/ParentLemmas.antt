@@ -1,5 +1,6 @@
 -- The bound of counts from that of their parent, and the first place and the atoms above.
-use Rattle.std.proofs.Common.{◌≡◌, ◌≢◌, ℕ, suc, ◌+◌, ◌-◌, ◌*◌, ◌<◌, ◌≤◌, List, length, get_or, sum, refl, sym, ◌∙◌, ap, arith, ⊎_elim, not, ltb, get_or-set_same, get_or-set_other}
+use Rattle.std.proofs.Common.{◌≡◌, ◌≢◌, ℕ, suc, ◌+◌, ◌-◌, ◌*◌, ◌<◌, ◌≤◌, List, length, get_or, sum, refl, sym, ◌∙◌, ap}
+use Rattle.std.proofs.Common.{arith, ⊎_elim, not, ltb, get_or-set_same, get_or-set_other}
 use Rattle.std.specs.List.{sum_by, range_with_len}
 use Rattle.std.proofs.lemmas.Bool.{cases_lt}
 use Rattle.std.proofs.lemmas.List.FromFn.{length-range_with_len}
@@ -10,7 +11,8 @@ use Rattle.multinomial_bounds.specs.Mode.{mode_of_atoms, mode_bound, IsMode}
 use Rattle.multinomial_bounds.specs.Path.{first_above, atoms_above, parent_of, bound_of}
 use Rattle.multinomial_bounds.proofs.WeightLemmas.{moved_to}
 use Rattle.multinomial_bounds.proofs.ModeLemmas.{length-mode_of_atoms, IsMode-mode_of_atoms}
-use Rattle.multinomial_bounds.proofs.PathLemmas.{IsParentMove, IsParentMove-from, IsParentMove-falls, bound_at-suc, bound_at-mode, first_above-above, atoms_above-zero, same_counts}
+use Rattle.multinomial_bounds.proofs.PathLemmas.{IsParentMove, IsParentMove-from, IsParentMove-falls, bound_at-suc}
+use Rattle.multinomial_bounds.proofs.PathLemmas.{bound_at-mode, first_above-above, atoms_above-zero, same_counts}
 use Rattle.isotopologue_list.specs.ListedParts.{ends_of_counts}
 use Rattle.isotopologue_list.proofs.FlatLemmas.{range_push}
 

@@ -1,5 +1,6 @@
 -- Counts that stand end to end, and the enclosures beside them.
-use Rattle.std.proofs.Common.{◌≡◌, ℕ, zero, suc, ◌+◌, ◌*◌, ◌<◌, ◌≤◌, List, [], ◌∷◌, ◌++◌, map, length, take, drop, get_or, refl, sym, ◌∙◌, ap, arith, All, length-append}
+use Rattle.std.proofs.Common.{◌≡◌, ℕ, zero, suc, ◌+◌, ◌*◌, ◌<◌, ◌≤◌, List, [], ◌∷◌, ◌++◌, map, length, take, drop}
+use Rattle.std.proofs.Common.{get_or, refl, sym, ◌∙◌, ap, arith, All, length-append}
 use Rattle.std.specs.Prelude.{flat_map}
 use Rattle.std.proofs.lemmas.List.{length-map, drop-drop, get_or-map}
 use Rattle.std.proofs.Math.Nat.{mul-le-mul_right}

@@ -1,6 +1,7 @@
 -- No set of isotopologues has more than as many of a closed list's greatest upper bounds above the threshold, with the
 -- threshold for each that is missing.
-use Rattle.std.proofs.Common.{◌≡◌, ℕ, zero, suc, ◌+◌, ◌-◌, ◌*◌, ◌<◌, ◌≤◌, ltb, true, List, [], ◌∷◌, map, length, take, get_or, sum, refl, sym, ◌∙◌, ap, arith, All, ⊎_elim, inl, inr}
+use Rattle.std.proofs.Common.{◌≡◌, ℕ, zero, suc, ◌+◌, ◌-◌, ◌*◌, ◌<◌, ◌≤◌, ltb, true, List, [], ◌∷◌, map, length, take}
+use Rattle.std.proofs.Common.{get_or, sum, refl, sym, ◌∙◌, ap, arith, All, ⊎_elim, inl, inr}
 use Rattle.std.specs.Prelude.{◌≢◌, ◌⊎◌, AllPairs, Contains, filter, sum_by}
 use Rattle.std.specs.List.Sorted.{IsPermutation}
 use Rattle.std.proofs.Math.Nat.{le_trans, mul-le-mul_right, le_of_mul-le-mul_right}

@@ -10,7 +10,9 @@ use Rattle.multinomial_bounds.specs.Isotopologue.{Element, IsIsotopologue, all_w
 use Rattle.multinomial_bounds.specs.Compositions.{isotopologues_of}
 use Rattle.multinomial_bounds.proofs.IsotopologueList.{isotopologues_of-IsIsotopologue}
 use Rattle.multinomial_bounds.proofs.SumOfWeights.{weights-sum}
-use Rattle.isotopologue_sets.specs.Layers.{AreElements, hi_of, lo_total, layer, layer_reaches, thresholds, reaching_threshold, max_members, has_too_many, ends_search, last_threshold_for}
+use Rattle.isotopologue_sets.specs.Layers.{AreElements, hi_of, lo_total, layer, layer_reaches, thresholds}
+use Rattle.isotopologue_sets.specs.Layers.{reaching_threshold, max_members, has_too_many, ends_search}
+use Rattle.isotopologue_sets.specs.Layers.{last_threshold_for}
 use Rattle.isotopologue_sets.specs.Coverage.{max_coverage}
 use Rattle.isotopologue_sets.proofs.SetBounds.{all_weight-positive, width_of, hi_of-positive, weight-le-hi_total, hi_total-le}
 

@@ -19,7 +19,9 @@ use Rattle.isotopologue_sets.proofs.GreatestSums.{Falls, sum_by-le-first}
 use Rattle.isotopologue_sets.proofs.FallingOrder.{greatest_first, map-greatest_first, greatest_first-falls}
 use Rattle.isotopologue_sets.proofs.FewestLaws.{fewest-within, fewest-below, fewest-at_most, fewest-reaches}
 use Rattle.isotopologue_sets.proofs.CoverOrder.{ordered_layer-IsTheOrder}
-use Rattle.isotopologue_sets.proofs.LayerLaws.{ordered_layer-IsIsotopologue, ordered_layer-above, ordered_layer-distinct, ordered_layer-cases, ordered_layer-falls, lo_total-ordered_layer}
+use Rattle.isotopologue_sets.proofs.LayerLaws.{ordered_layer-IsIsotopologue, ordered_layer-above}
+use Rattle.isotopologue_sets.proofs.LayerLaws.{ordered_layer-distinct, ordered_layer-cases, ordered_layer-falls}
+use Rattle.isotopologue_sets.proofs.LayerLaws.{lo_total-ordered_layer}
 use Rattle.isotopologue_sets.proofs.SetBounds.{width_of, all_weight-positive, lo_total-le-weight, weight-le-hi_total, lo_total-le-hi_total, hi_total-le}
 use Rattle.isotopologue_sets.proofs.CoverMembers.{counts_are, bounds_are, first_counts-map}
 use Rattle.isotopologue_sets.proofs.AllReach.{reaching_threshold-reaches}

@@ -1,5 +1,6 @@
 -- The search for a cover ends at the mode's upper bound halved so many times, and at no greater one of these.
-use Rattle.std.proofs.Common.{◌≡◌, ℕ, zero, suc, ◌+◌, ◌*◌, ◌/◌, ◌^◌, ◌<◌, ◌≤◌, Bool, true, false, cond, Some, List, [], ◌∷◌, map, sym, ◌∙◌, ap, arith, All, ⊎_elim, lit<}
+use Rattle.std.proofs.Common.{◌≡◌, ℕ, zero, suc, ◌+◌, ◌*◌, ◌/◌, ◌^◌, ◌<◌, ◌≤◌, Bool, true, false, cond, Some, List, []}
+use Rattle.std.proofs.Common.{◌∷◌, map, sym, ◌∙◌, ap, arith, All, ⊎_elim, lit<}
 use Rattle.std.specs.List.{find, range_with_len}
 use Rattle.std.specs.Option.{unwrap_or}
 use Rattle.std.proofs.Math.Nat.{div-eq_of_lt, div-mul-le_self, pow-le-pow_right, mul-le-mul_left, one-le-pow}

@@ -1,7 +1,8 @@
 -- Enclosures stay enclosures when they are multiplied by an exact quotient of at most 1, or by each
 -- other, with lower bounds rounded down and upper ones up.
 use Rattle.std.proofs.Common.{◌≡◌, ℕ, ◌+◌, ◌*◌, ◌<◌, ◌≤◌, ap, arith}
-use Rattle.std.proofs.Math.Nat.{div-mul-le_self, le_of_mul-le-mul_right, lt_of_mul-lt-mul_right, mul-le-mul_left, mul-le-mul_right, mul-le-mul, mul-pos, le_trans}
+use Rattle.std.proofs.Math.Nat.{div-mul-le_self, le_of_mul-le-mul_right, lt_of_mul-lt-mul_right, mul-le-mul_left}
+use Rattle.std.proofs.Math.Nat.{mul-le-mul_right, mul-le-mul, mul-pos, le_trans}
 use Rattle.std.proofs.lemmas.Grind.{div_ceil_times}
 use Rattle.multinomial_bounds.specs.Bounds.{certainty, floor_of, ceiling_of, IsEnclosure}
 

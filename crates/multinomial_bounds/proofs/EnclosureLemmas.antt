@@ -12,7 +12,8 @@ use Rattle.multinomial_bounds.specs.Isotopologue.{Element, IsIsotopologue, isoto
 use Rattle.multinomial_bounds.proofs.WeightLemmas.{move_rule}
 use Rattle.multinomial_bounds.proofs.BoundLemmas.{IsEnclosure-move, IsEnclosure-times, ceiling_of-le}
 use Rattle.multinomial_bounds.proofs.ModeLemmas.{length-mode_of_atoms, sum-mode_of_atoms, IsMode-mode_of_atoms, IsEnclosure-mode, IsWeights-positive}
-use Rattle.multinomial_bounds.proofs.PathLemmas.{same_counts, atoms_above-zero, IsParentMove, IsParentMove-from, IsParentMove-falls, bound_at-suc, bound_at-mode}
+use Rattle.multinomial_bounds.proofs.PathLemmas.{same_counts, atoms_above-zero, IsParentMove, IsParentMove-from}
+use Rattle.multinomial_bounds.proofs.PathLemmas.{IsParentMove-falls, bound_at-suc, bound_at-mode}
 
 module _ (ws m : List ℕ) (n lo hi : ℕ) (same : length m ≡ length ws) (atoms : sum m ≡ n) (mode : IsMode ws m)
     (positive : (k : ℕ) → k < length ws → 1 ≤ get_or ws k 0)

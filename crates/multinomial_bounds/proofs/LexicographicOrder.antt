@@ -1,5 +1,6 @@
 -- Compositions, and all isotopologues, stand in lexicographic order, each once.
-use Rattle.std.proofs.Common.{◌≡◌, ℕ, zero, suc, ◌+◌, ◌-◌, ◌<◌, List, [], ◌∷◌, ◌++◌, map, length, get_or, refl, sym, ◌∙◌, ap, arith, All, eqb, cond, true, false}
+use Rattle.std.proofs.Common.{◌≡◌, ℕ, zero, suc, ◌+◌, ◌-◌, ◌<◌, List, [], ◌∷◌, ◌++◌, map, length, get_or, refl, sym}
+use Rattle.std.proofs.Common.{◌∙◌, ap, arith, All, eqb, cond, true, false}
 use Rattle.std.specs.Prelude.{flat_map, AllPairs}
 use Rattle.std.specs.List.{range_with_len}
 use Rattle.std.specs.Ordering.{nat_cmp, ordering_then}

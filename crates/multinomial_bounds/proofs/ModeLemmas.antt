@@ -1,6 +1,8 @@
 -- The mode: the next isotope exists and is the first of those with the greatest quotient, each step
 -- keeps that no move makes the counts likelier, and no factor on the way is above 1.
-use Rattle.std.proofs.Common.{below_more, add-one, ◌≡◌, ℕ, zero, suc, ◌+◌, ◌-◌, ◌*◌, ◌^◌, ◌<◌, ◌≤◌, List, [], ◌∷◌, Bool, true, false, refl, ap, ◌∙◌, arith, length, get_or, ⊎_elim, sum, replicate, get_or-set_other}
+use Rattle.std.proofs.Common.{below_more, add-one, ◌≡◌, ℕ, zero, suc, ◌+◌, ◌-◌, ◌*◌, ◌^◌, ◌<◌, ◌≤◌, List, [], ◌∷◌, Bool}
+use Rattle.std.proofs.Common.{true, false, refl, ap, ◌∙◌, arith, length, get_or, ⊎_elim, sum, replicate}
+use Rattle.std.proofs.Common.{get_or-set_other}
 use Rattle.std.proofs.Math.Nat.{le_of_mul-le-mul_right, lt_of_mul-lt-mul_right, mul-le-mul_right, mul-lt-mul_of_pos_right, mul-pos, le_trans, pow-zero, pow-suc}
 use Rattle.std.specs.List.{list_all, position_or_len, range_with_len}
 use Rattle.std.proofs.lemmas.Bool.{cases_eq, cases_lt, le-leb, lt-leb}

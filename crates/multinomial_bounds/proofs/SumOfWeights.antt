@@ -1,7 +1,8 @@
 -- The weights of all counts of an element's atoms sum to the power of the sum of its weights, and those of all
 -- isotopologues to the product of these: each list of counts with an atom of an isotope is one without it, and
 -- that atom.
-use Rattle.std.proofs.Common.{◌≡◌, ℕ, zero, suc, ◌+◌, ◌-◌, ◌*◌, ◌^◌, ◌<◌, ◌≤◌, List, [], ◌∷◌, ◌++◌, cond, eqb, refl, sym, ◌∙◌, ap, arith, zero-add, length, map, get_or, replicate, sum, ⊎_elim}
+use Rattle.std.proofs.Common.{◌≡◌, ℕ, zero, suc, ◌+◌, ◌-◌, ◌*◌, ◌^◌, ◌<◌, ◌≤◌, List, [], ◌∷◌, ◌++◌, cond, eqb, refl}
+use Rattle.std.proofs.Common.{sym, ◌∙◌, ap, arith, zero-add, length, map, get_or, replicate, sum, ⊎_elim}
 use Rattle.std.proofs.Math.Nat.{add-zero, mul_comm, pow-zero, pow-suc}
 use Rattle.std.specs.List.{sum_by, range_with_len}
 use Rattle.std.proofs.lemmas.Bool.{eq-eqb, ne_eqb, cases_lt}
@@ -11,7 +12,9 @@ use Rattle.std.proofs.lemmas.List.Sums.{sum_by-cons, get_or-le-sum_by}
 use Rattle.multinomial_bounds.specs.Weight.{places, one_less, weight_of, total_of}
 use Rattle.multinomial_bounds.specs.Isotopologue.{Element, isotopologue_weight, all_weight}
 use Rattle.multinomial_bounds.specs.Compositions.{compositions, choices, counts_of, isotopologues_of}
-use Rattle.multinomial_bounds.proofs.SumLemmas.{sum_by_same, sum_by_same_each, sum_by_zero, sum_by-scale, sum_by-places, sum_by-map, sum_by-flat_map, sum_by-exchange, sum_by-range_more, sum_by-range_from_next, sum_by-range_same}
+use Rattle.multinomial_bounds.proofs.SumLemmas.{sum_by_same, sum_by_same_each, sum_by_zero, sum_by-scale, sum_by-places}
+use Rattle.multinomial_bounds.proofs.SumLemmas.{sum_by-map, sum_by-flat_map, sum_by-exchange, sum_by-range_more}
+use Rattle.multinomial_bounds.proofs.SumLemmas.{sum_by-range_from_next, sum_by-range_same}
 use Rattle.multinomial_bounds.proofs.WeightLemmas.{last_drawn, weight_of-suc, weight_of-no_atoms}
 use Rattle.multinomial_bounds.proofs.CompositionLemmas.{IsComposition, compositions-IsComposition}
 

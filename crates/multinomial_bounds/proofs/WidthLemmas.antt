@@ -12,7 +12,8 @@ use Rattle.multinomial_bounds.specs.Path.{first_above, atoms_above, parent_of, b
 use Rattle.multinomial_bounds.specs.Isotopologue.{Element, IsIsotopologue, all_atoms, bounds_of, isotopologue_bound}
 use Rattle.multinomial_bounds.proofs.SumLemmas.{sum_by_le, sum_by-places}
 use Rattle.multinomial_bounds.proofs.BoundLemmas.{ceiling_of-le}
-use Rattle.multinomial_bounds.proofs.ModeLemmas.{length-mode_of_atoms, sum-mode_of_atoms, IsMode-mode_of_atoms, IsWeights-positive, next_isotope-falls, next_isotope-within}
+use Rattle.multinomial_bounds.proofs.ModeLemmas.{length-mode_of_atoms, sum-mode_of_atoms, IsMode-mode_of_atoms}
+use Rattle.multinomial_bounds.proofs.ModeLemmas.{IsWeights-positive, next_isotope-falls, next_isotope-within}
 use Rattle.multinomial_bounds.proofs.PathLemmas.{IsParentMove, IsParentMove-from, IsParentMove-falls}
 use Rattle.multinomial_bounds.proofs.EnclosureLemmas.{IsEnclosure-counts, product_from}
 

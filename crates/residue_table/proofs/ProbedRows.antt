@@ -1,5 +1,6 @@
 -- A part of a row that is looked through answers for a range of numbers, and rows answer for sums.
-use Rattle.std.proofs.Common.{◌≡◌, ℕ, ◌+◌, ◌-◌, ◌*◌, ◌/◌, ◌%◌, ◌^◌, ◌<◌, ◌≤◌, ◌↔◌, min, List, length, get_or, Option, Some, None, ap, arith, sym, subst, refl, ◌∙◌}
+use Rattle.std.proofs.Common.{◌≡◌, ℕ, ◌+◌, ◌-◌, ◌*◌, ◌/◌, ◌%◌, ◌^◌, ◌<◌, ◌≤◌, ◌↔◌, min, List, length, get_or, Option}
+use Rattle.std.proofs.Common.{Some, None, ap, arith, sym, subst, refl, ◌∙◌}
 use Rattle.std.specs.Prelude.{Bool, true, false, IfSome, IsNone, IsTrue}
 use Rattle.std.specs.Bool.{OnTrue, OnFalse}
 use Rattle.std.proofs.lemmas.Nat.{div-add-mod', mod-mul-add, mod_below}

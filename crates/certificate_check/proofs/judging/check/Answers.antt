@@ -13,7 +13,9 @@ use Rattle.certificate_check.proofs.LineMembers.{has-text, members-are, rows-lon
 use Rattle.certificate_check.proofs.CertificateTruth.{certificate-true}
 use Rattle.certificate_check.proofs.JudgementSteps.{coverage-zero, coverage-high, many-members, of-lines}
 use Rattle.certificate_check.proofs.judging.check.Goals as goal
-use Rattle.certificate_check.proofs.judging.check.Goals.{After-claim_fault, In_default, In_ok-marks, In_ok-fault, then-said-eq0-via-then-said-eq0, then-said-eq0-via-else-said-eq0+then-said-gt-MAX_COVERAGE}
+use Rattle.certificate_check.proofs.judging.check.Goals.{After-claim_fault, In_default, In_ok-marks, In_ok-fault}
+use Rattle.certificate_check.proofs.judging.check.Goals.{then-said-eq0-via-then-said-eq0}
+use Rattle.certificate_check.proofs.judging.check.Goals.{then-said-eq0-via-else-said-eq0+then-said-gt-MAX_COVERAGE}
 
 pub returns-then-said-eq0-clause-judgement : goal.returns-then-said-eq0-clause-judgement
 returns-then-said-eq0-clause-judgement c =

@@ -9,7 +9,8 @@ use Rattle.isotopologue_neighbours.specs.Moves.{counts_moved}
 use Rattle.cover_claims.specs.Surroundings.{as_row, left_out_among}
 use Rattle.cover_claims.proofs.OtherCounts.{member-is}
 use Rattle.cover_claims.proofs.Surround.{length-isotopologue}
-use Rattle.cover_claims.proofs.NeighboursByElement.{neighbours-all, element-none, element-some, element-end, from-room, own-room, own-row, own-long, next-from, row-around, own-small}
+use Rattle.cover_claims.proofs.NeighboursByElement.{neighbours-all, element-none, element-some, element-end, from-room}
+use Rattle.cover_claims.proofs.NeighboursByElement.{own-room, own-row, own-long, next-from, row-around, own-small}
 use Rattle.cover_claims.proofs.boundary.left_out_of.Goals as goal
 use Rattle.cover_claims.proofs.boundary.left_out_of.Goals.{After-index-elements-element, After-split_at, After-split_at-in-loop-element}
 

@@ -1,7 +1,8 @@
 -- The counts stay among those that are left, which become fewer, until only they are left.
 use Rattle.std.proofs.Common.{◌≡◌, ◌+◌, ◌-◌, ◌/◌, true, false, length, sum, arith, sym, ◌∙◌}
 use Rattle.isotopologue_list.specs.Nearest.{composition_at}
-use Rattle.isotopologue_list.proofs.SearchLemmas.{upto, le_upto, IsBetween-start, IsBetween-upper, IsBetween-lower, IsBetween-one, row_count, row_inside, row_at_place}
+use Rattle.isotopologue_list.proofs.SearchLemmas.{upto, le_upto, IsBetween-start, IsBetween-upper, IsBetween-lower}
+use Rattle.isotopologue_list.proofs.SearchLemmas.{IsBetween-one, row_count, row_inside, row_at_place}
 use Rattle.isotopologue_list.proofs.enclosures.place_of.Goals as goal
 use Rattle.isotopologue_list.proofs.enclosures.place_of.Goals.{After-row_at}
 

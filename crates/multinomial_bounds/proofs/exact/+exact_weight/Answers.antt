@@ -1,7 +1,9 @@
 use Rattle.std.proofs.Common.{◌≡◌, suc, ◌+◌, ◌-◌, ◌≤◌, get_or, set, ap, sym, ◌∙◌, arith, refl, rules}
 use Rattle.std.proofs.lemmas.List.{length-set}
 use Rattle.multinomial_bounds.specs.Weight.{weight_of, total_of}
-use Rattle.multinomial_bounds.proofs.ExactLemmas.{weight_so_far-none, weight_so_far-some, weight_so_far-skip, weight_so_far-next, weight_so_far-le, weight_so_far-all, total_of-le, weight_of-no_atom, weight_of-some_atom}
+use Rattle.multinomial_bounds.proofs.ExactLemmas.{weight_so_far-none, weight_so_far-some, weight_so_far-skip}
+use Rattle.multinomial_bounds.proofs.ExactLemmas.{weight_so_far-next, weight_so_far-le, weight_so_far-all, total_of-le}
+use Rattle.multinomial_bounds.proofs.ExactLemmas.{weight_of-no_atom, weight_of-some_atom}
 use Rattle.multinomial_bounds.proofs.PathLemmas.{one_more-one_less}
 use Rattle.multinomial_bounds.proofs.exact.+exact_weight.Goals as goal
 use Rattle.multinomial_bounds.proofs.exact.+exact_weight.Goals.{then-counts-i-gt0, else-counts-i-gt0}

@@ -4,7 +4,8 @@ use Rattle.std.proofs.Math.Nat.{mul-pos, mul-le-mul, le_trans}
 use Rattle.multinomial_bounds.specs.Weight.{IsWeights, one_more}
 use Rattle.multinomial_bounds.specs.Mode.{next_isotope, mode_of_atoms, mode_bound}
 use Rattle.multinomial_bounds.specs.Bounds.{floor_of, ceiling_of}
-use Rattle.multinomial_bounds.proofs.ModeLemmas.{next_isotope-falls, get_or-mode_of_atoms-le, mode_of_atoms-next, mode_bound-next, sum-IsWeights, IsWeights-positive}
+use Rattle.multinomial_bounds.proofs.ModeLemmas.{next_isotope-falls, get_or-mode_of_atoms-le, mode_of_atoms-next}
+use Rattle.multinomial_bounds.proofs.ModeLemmas.{mode_bound-next, sum-IsWeights, IsWeights-positive}
 use Rattle.multinomial_bounds.proofs.mode.add_atom.Goals as goal
 use Rattle.multinomial_bounds.proofs.mode.add_atom.Goals.{After-slice_known-3-1, After-scaled}
 

@@ -1,7 +1,8 @@
 -- The loop ends with the mode of all atoms, and what the definition's numbers mean is proved of them.
 use Rattle.std.proofs.Common.{rules, ◌≡◌, sum, arith, ap, ◌∙◌}
 use Rattle.multinomial_bounds.specs.Mode.{mode_of_atoms, mode_bound}
-use Rattle.multinomial_bounds.proofs.ModeLemmas.{sum-IsWeights, sum-mode_of_atoms, length-mode_of_atoms, IsMode-mode_of_atoms, IsEnclosure-mode, IsWeights-positive}
+use Rattle.multinomial_bounds.proofs.ModeLemmas.{sum-IsWeights, sum-mode_of_atoms, length-mode_of_atoms}
+use Rattle.multinomial_bounds.proofs.ModeLemmas.{IsMode-mode_of_atoms, IsEnclosure-mode, IsWeights-positive}
 use Rattle.multinomial_bounds.proofs.LikeliestLemmas.{weight-at-most-mode}
 use Rattle.multinomial_bounds.proofs.WidthLemmas.{width-mode}
 use Rattle.multinomial_bounds.proofs.mode.mode_of.Goals as goal

@@ -7,7 +7,9 @@ use Rattle.multinomial_bounds.specs.Isotopologue.{Element}
 use Rattle.multinomial_bounds.specs.Compositions.{choices, isotopologues_of}
 use Rattle.isotopologue_sets.specs.Covers.{member_of}
 use Rattle.isotopologue_list.specs.ListedParts.{isotopologue_from}
-use Rattle.isotopologue_list.proofs.ListingLemmas.{bounded_counts_of, listed, listed_complete, listed_in_order, listed-IsEnclosure, listed-IsIsotopologue, listed-elements, next_listed, all_ends}
+use Rattle.isotopologue_list.proofs.ListingLemmas.{bounded_counts_of, listed, listed_complete, listed_in_order}
+use Rattle.isotopologue_list.proofs.ListingLemmas.{listed-IsEnclosure, listed-IsIsotopologue, listed-elements}
+use Rattle.isotopologue_list.proofs.ListingLemmas.{next_listed, all_ends}
 use Rattle.isotopologue_list.proofs.list.IsotopologueList.of.Goals as goal
 use Rattle.isotopologue_list.proofs.list.IsotopologueList.of.Goals.{In_ok-append_products}
 
