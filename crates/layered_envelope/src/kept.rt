@@ -19,7 +19,9 @@ const MAX_KEPT: usize = 65_536;
 #[derive(Drop)]
 pub struct GrownLists {
     elements: Vec<ElementLists>,
-    /// How many places and items there is room for.
+    /// The most places and items that are kept together.
+    most: usize,
+    /// How many more there is room for.
     room: usize,
 }
 
@@ -50,9 +52,20 @@ impl Model for ElementLists {
 impl GrownLists {
     /// None yet.
     pub fn new(alloc: Global) -> GrownLists {
+        GrownLists::with_room(alloc, MAX_KEPT)
+    }
+
+    /// None ever, for one formula alone: there is no room for a list.
+    pub fn of_none(alloc: Global) -> GrownLists {
+        GrownLists::with_room(alloc, 0)
+    }
+
+    /// None yet, with room for so many places and items.
+    fn with_room(alloc: Global, most: usize) -> GrownLists {
         GrownLists {
             elements: Vec::new(alloc),
-            room: MAX_KEPT,
+            most,
+            room: most,
         }
     }
 
@@ -70,7 +83,7 @@ impl GrownLists {
     /// that may be kept, and without memory for it. Where there is no room beside the others, those are dropped.
     pub(crate) fn keep(&mut self, list: SubIsos) {
         let most_needed = list.atoms() as usize + 1 + list.kept_items();
-        if most_needed > MAX_KEPT {
+        if most_needed > self.most {
             return;
         }
         if most_needed > self.room {
@@ -82,7 +95,7 @@ impl GrownLists {
     /// Drops all lists.
     fn clear(&mut self) {
         self.elements.clear();
-        self.room = MAX_KEPT;
+        self.room = self.most;
     }
 
     /// Puts a list in its place, if there is room for it.

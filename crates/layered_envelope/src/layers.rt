@@ -53,7 +53,7 @@ impl Layers {
         requires { AreElements elements.items }
         ensures { IfOk result (λ l. l ≡ record { elements = elements.items; given = 0 }) }
     {
-        Layers::start_with(alloc, &elements, &mut GrownLists::new(alloc))
+        Layers::start_with(alloc, &elements, &mut GrownLists::of_none(alloc))
     }
 
     /// The same as `start`, with lists that are kept from other formulas where there are such: no mode is found and no
