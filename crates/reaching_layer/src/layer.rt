@@ -119,7 +119,7 @@ pub fn reaching_layer(
     ensures width { IfOk result (λ l. All (λ m.
         m.hi ≤ m.lo + (2 * all_atoms elements.now + length elements.now - 1)) l.members) }
 {
-    reaching_layer_with(alloc, elements, coverage, &mut GrownLists::new(alloc))
+    reaching_layer_with(alloc, elements, coverage, &mut GrownLists::of_none(alloc))
 }
 
 /// The same, which begins with the lists of elements that an earlier one kept, and keeps those of its own.
