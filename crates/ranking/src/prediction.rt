@@ -95,7 +95,7 @@ pub fn predict(
         ion,
         charge,
         coverage,
-        &mut GrownLists::new(alloc),
+        &mut GrownLists::of_none(alloc),
     )
 }
 

