@@ -33,7 +33,7 @@ const FILES: [(&str, &[u8]); 9] = [
 ];
 
 /// The words of runs that end with a report, and the names that each asks for, in their order.
-const RUNS: [(&str, &[&str]); 11] = [
+const RUNS: [(&str, &[&str]); 12] = [
     (
         "decompose --table ab.csv --mass 10 --da 0.00001 --alphabet AB",
         &["ab.csv"],
@@ -77,6 +77,10 @@ const RUNS: [(&str, &[&str]); 11] = [
     (
         "rank --table ab.csv --peaks one.csv --ppm 1 --alphabet AB --coverage 0.9 --json",
         &["ab.csv", "one.csv"],
+    ),
+    (
+        "generate --table elements.csv --number 1",
+        &["elements.csv"],
     ),
 ];
 
