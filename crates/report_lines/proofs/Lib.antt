@@ -2,3 +2,4 @@ pub mod MassTexts
 pub mod JoinedWords
 pub mod WordsOfLines
 pub mod FormulaTexts
+pub mod WrittenTexts

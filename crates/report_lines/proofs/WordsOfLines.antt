@@ -1,5 +1,5 @@
 -- A line whose words are named in another way.
-use Rattle.std.proofs.Common.{◌≡◌, ℕ, List, [], ◌∷◌, ◌++◌, codes, ap, ◌∙◌}
+use Rattle.std.proofs.Common.{◌≡◌, ℕ, List, [], ◌∷◌, ◌++◌, codes, sym, ap, ◌∙◌}
 use Rattle.std.proofs.lemmas.List.{append_assoc}
 use Rattle.std.specs.Prelude.{ℤ, Result, Ok, Err, OnOk}
 use Rattle.std.specs.Fmt.{decimal, signed_decimal}
@@ -28,6 +28,18 @@ words_joined : (start word text a b c : List ℕ)
     → start ++ (word ++ 32 ∷ []) ++ text ++ (32 ∷ a ++ 32 ∷ b ++ 32 ∷ c ++ 10 ∷ [])
     ≡ start ++ line (word ∷ text ∷ a ∷ b ∷ c ∷ [])
 words_joined start word text a b c = simp append_assoc
+
+-- a line that was written from its end to its front
+pub line_written : (word text a b c end numbers items whole : List ℕ) → whole ≡ (word ++ 32 ∷ []) ++ items
+    → items ≡ text ++ numbers → numbers ≡ 32 ∷ a ++ 32 ∷ b ++ 32 ∷ c ++ 10 ∷ end → end ≡ []
+    → whole ≡ line (word ∷ text ∷ a ∷ b ∷ c ∷ [])
+line_written word text a b c end numbers items whole front middle back none =
+    let written : numbers ≡ 32 ∷ a ++ 32 ∷ b ++ 32 ∷ c ++ 10 ∷ [] = back
+    ∙ ap (λ (t : List ℕ). 32 ∷ a ++ 32 ∷ b ++ 32 ∷ c ++ 10 ∷ t) none in
+    front
+    ∙ ap (λ (t : List ℕ). (word ++ 32 ∷ []) ++ t) (middle ∙ ap (λ (t : List ℕ). text ++ t) written)
+    ∙ sym (append_assoc (word ++ 32 ∷ []) text (32 ∷ a ++ 32 ∷ b ++ 32 ∷ c ++ 10 ∷ []))
+    ∙ words_joined [] word text a b c
 
 -- the line of an isotopologue whose numbers were written so, appended and not cut
 pub isotopologue_line-numbers : {A E : Type 0} (pushed answer : Result A E) (start before after : List ℕ) (shift : ℤ)

@@ -1,5 +1,5 @@
 //! The lines of the report of formulas.
-ghost use Rattle.std.specs.Prelude.{◌≡◌, [], ◌∷◌, ◌++◌, length, take, IfOk, OnOk, OnErr, IsTrue, is_some, codes};
+ghost use Rattle.std.specs.Prelude.{◌≡◌, [], ◌∷◌, ◌++◌, length, IfOk, OnOk, OnErr, IsTrue, is_some, codes, drop, ◌≤◌};
 ghost use Rattle.std.specs.Fmt.{signed_decimal};
 ghost use Rattle.formula_text.specs.PrintedText.{printed_text};
 ghost use Rattle.report_lines.specs.ReportLines.{IsPrintedMass, ion_mass_text, line, mass_difference, mass_text};
@@ -7,15 +7,21 @@ ghost use Rattle.report_lines.specs.ReportLines.{decompose_head, peak_line, form
 ghost use Rattle.formula_text.specs.Masses.{HasItems};
 ghost use Rattle.adducts.specs.Ions.{ion_of};
 
-use crate::formula::push_formula;
-use crate::line::{cut_unless_pushed, push_line};
+use crate::formula::{GROUP, GROUP_LENGTH, write_group};
+use crate::line::push_line;
 use crate::word::{Word, ion_mass_word};
-use crate::written::{NUMBERS_ROOM, write_masses};
+use crate::written::{NUMBERS_ROOM, write_masses, write_text};
 use adducts::{Adduct, ion_mass};
 use element_table::Table;
 use formula_text::Formula;
 use std::alloc::{AllocError, Global};
 use written_items::Item;
+
+/// What the line of a formula begins with.
+const LINE_WORD: &[u8; 8] = b"formula ";
+
+/// The bytes that the line of a formula of few items has room in.
+const LINE_ROOM: usize = 8 + GROUP_LENGTH + NUMBERS_ROOM;
 
 /// The line above the peaks of a report on so many.
 pub fn decompose_head(alloc: Global, peaks: u64) -> Result<Vec<u8>, AllocError>
@@ -105,18 +111,16 @@ pub fn push_items_line(
     ensures refused { OnErr result (report.new.items ≡ report.old.items) }
 {
     let difference = mass_difference(ion_mass, mz, divisor);
-    if difference.unsigned_abs() > u128::from(u64::MAX) {
-        return push_far_line(report, formula, mass, ion_mass, difference);
+    if formula.len() > GROUP || difference.unsigned_abs() > u128::from(u64::MAX) {
+        return push_any_line(report, formula, mass, ion_mass, difference);
     }
-    let mut numbers = [0; NUMBERS_ROOM];
-    let place = write_masses(mass, ion_mass, difference, &mut numbers);
-    let start = report.len();
-    let pushed = push_formula_with(report, formula, &numbers[place..]);
-    cut_unless_pushed(report, start, pushed)
+    let mut room = [0; LINE_ROOM];
+    let start = write_line(&mut room, formula, mass, ion_mass, difference);
+    report.extend_from_slice(&room[start..])
 }
 
-/// Appends the line of a formula whose difference is any.
-fn push_far_line(
+/// Appends the line of a formula of any number of items, word by word.
+fn push_any_line(
     report: &mut Vec<u8>,
     formula: &[(Item, u32)],
     mass: u64,
@@ -141,19 +145,25 @@ fn push_far_line(
     )
 }
 
-/// Appends the line of a formula with what stands behind its text, or as much as there is room for.
-fn push_formula_with(
-    report: &mut Vec<u8>,
+/// Writes the line of a formula of few items at the end of the room, and tells where it begins.
+fn write_line(
+    room: &mut [u8; LINE_ROOM],
     formula: &[(Item, u32)],
-    numbers: &[u8],
-) -> Result<(), AllocError>
-    ensures line { OnOk result (
-        report.new.items ≡ report.old.items ++ codes "formula " ++ printed_text formula.now ++ numbers.now) }
-    ensures kept { OnErr result (take (length report.old.items) report.new.items ≡ report.old.items) }
+    mass: u64,
+    ion_mass: i128,
+    difference: i128,
+) -> usize
+    requires few { length formula.now ≤ 16 }
+    requires ion { IsPrintedMass ion_mass }
+    requires difference { IsPrintedMass difference }
+    ensures within { result ≤ 504 }
+    ensures line { drop result room.new
+        ≡ line (codes "formula" ∷ printed_text formula.now ∷ mass_text mass ∷ ion_mass_text ion_mass
+        ∷ signed_decimal difference ∷ []) }
 {
-    report.extend_from_slice(b"formula ")?;
-    push_formula(report, formula)?;
-    report.extend_from_slice(numbers)
+    let numbers = write_masses(mass, ion_mass, difference, room, LINE_ROOM);
+    let items = write_group(room, numbers, formula);
+    write_text(LINE_WORD, room, items)
 }
 
 /// The line of a formula for a peak of this m/z: its text and its mass, the mass of its ion, and how far that is above

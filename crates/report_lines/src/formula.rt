@@ -8,11 +8,11 @@ use std::alloc::AllocError;
 use written_items::Item;
 
 /// The most items that are written before they are appended.
-const GROUP: usize = 16;
+pub(crate) const GROUP: usize = 16;
 
 /// The bytes that a group has room in: of each item two brackets, ten digits of a label, three letters and ten digits
 /// of a count.
-const GROUP_LENGTH: usize = 400;
+pub(crate) const GROUP_LENGTH: usize = 400;
 
 /// Appends the printed text of a formula. Without room for all of it a part may be appended.
 pub(crate) fn push_formula(text: &mut Vec<u8>, items: &[(Item, u32)]) -> Result<(), AllocError>
@@ -35,18 +35,20 @@ fn push_group(text: &mut Vec<u8>, items: &[(Item, u32)]) -> Result<(), AllocErro
     ensures refused { OnErr result (text.new.items ≡ text.old.items) }
 {
     let mut room = [0; GROUP_LENGTH];
-    let start = write_group(&mut room, items);
+    let start = write_group(&mut room, GROUP_LENGTH, items);
     text.extend_from_slice(&room[start..])
 }
 
-/// Writes a few items with their counts at the end of the room, and tells where they begin.
-fn write_group(room: &mut [u8], items: &[(Item, u32)]) -> usize
+/// Writes a few items with their counts so that they end at `end`, and tells where they begin.
+pub(crate) fn write_group(room: &mut [u8], end: usize, items: &[(Item, u32)]) -> usize
     requires few { length items.now ≤ 16 }
-    requires room { length room.old ≡ 400 }
-    ensures within { result ≤ length room.old }
-    ensures text { drop result room.new ≡ printed_text items.now }
+    requires from { 400 ≤ end }
+    requires to { end ≤ length room.old }
+    ensures within { result ≤ end }
+    ensures short { end ≤ result + 400 }
+    ensures text { drop result room.new ≡ printed_text items.now ++ drop end room.old }
 {
-    let mut at = room.len();
+    let mut at = end;
     let mut place = items.len();
     while place > 0 {
         place -= 1;

@@ -20,15 +20,19 @@ pub fn write_masses(
     mass: u64,
     ion_mass: i128,
     difference: i128,
-    bytes: &mut [u8; NUMBERS_ROOM],
+    bytes: &mut [u8],
+    end: usize,
 ) -> usize
     requires ion { IsPrintedMass ion_mass }
     requires difference { IsPrintedMass difference }
-    ensures within { result ≤ 96 }
-    ensures written { drop result bytes.new ≡ space ∷ mass_text mass
-        ++ space ∷ ion_mass_text ion_mass ++ space ∷ signed_decimal difference ++ line_feed ∷ [] }
+    requires room { 96 ≤ end }
+    requires within { end ≤ length bytes.old }
+    ensures start { end ≤ result + 96 }
+    ensures end { result ≤ end }
+    ensures written { drop result bytes.new ≡ space ∷ mass_text mass ++ space ∷ ion_mass_text ion_mass
+        ++ space ∷ signed_decimal difference ++ line_feed ∷ drop end bytes.old }
 {
-    let start = write_byte(bytes, NUMBERS_ROOM, b'\n');
+    let start = write_byte(bytes, end, b'\n');
     let start = write_difference(difference, bytes, start);
     let start = write_byte(bytes, start, b' ');
     let start = write_ion_mass(ion_mass, bytes, start);
@@ -50,6 +54,19 @@ pub fn write_enclosed(mass: i128, lo: u64, hi: u64, bytes: &mut [u8; NUMBERS_ROO
     let start = write_number(lo, bytes, start);
     let start = write_ion_mass(mass, bytes, start);
     write_byte(bytes, start, b' ')
+}
+
+/// Writes a text as it is.
+#[inline(always)]
+pub fn write_text(text: &[u8], bytes: &mut [u8], end: usize) -> usize
+    requires room { length text.now ≤ end }
+    requires within { end ≤ length bytes.old }
+    ensures start { result + length text.now ≡ end }
+    ensures written { drop result bytes.new ≡ text.now ++ drop end bytes.old }
+{
+    let start = end - text.len();
+    bytes[start..end].copy_from_slice(text);
+    start
 }
 
 /// Writes a number with a space before it.

@@ -1,4 +1,4 @@
-use Rattle.std.proofs.Common.{◌≡◌, ◌*◌, ◌≤◌, length, drop}
+use Rattle.std.proofs.Common.{◌≡◌, ◌+◌, ◌*◌, ◌≤◌, ◌++◌, length, drop}
 use Rattle.formula_text.specs.PrintedText.{printed_text}
 use Rattle.report_lines.proofs.formula.write_group.Given as goal
 
@@ -6,9 +6,9 @@ use Rattle.report_lines.proofs.formula.write_group.Given as goal
 abbrev pub invariant-loop-place : goal.invariant-loop-place
 invariant-loop-place l = record {
   within : l.place ≤ length l.items;
-  room : 25 * l.place ≤ l.at;
-  to : l.at ≤ length l.room;
-  text : drop l.at l.room ≡ printed_text (drop l.place l.items);
+  from : l.end + 25 * l.place ≤ l.at + 25 * length l.items;
+  to : l.at ≤ l.end;
+  text : drop l.at l.room ≡ printed_text (drop l.place l.items) ++ drop l.end l.initial.room;
 }
 
 abbrev pub decreases-loop-place : goal.decreases-loop-place
