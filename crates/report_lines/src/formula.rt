@@ -99,11 +99,17 @@ fn write_symbol(room: &mut [u8], end: usize, symbol: &[u8]) -> usize
     ensures short { end ≤ result + 3 }
     ensures text { drop result room.new ≡ symbol.now ++ drop end room.old }
 {
-    let mut at = end;
-    let mut place = symbol.len();
-    while place > 0 {
-        place -= 1;
-        at = write_byte(room, at, symbol[place]);
+    match symbol {
+        [first] => write_byte(room, end, *first),
+        [first, second] => {
+            let at = write_byte(room, end, *second);
+            write_byte(room, at, *first)
+        }
+        [first, second, third] => {
+            let at = write_byte(room, end, *third);
+            let at = write_byte(room, at, *second);
+            write_byte(room, at, *first)
+        }
+        _ => end,
     }
-    at
 }
