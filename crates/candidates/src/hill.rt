@@ -56,7 +56,7 @@ impl HillOrder {
 fn is_carbon(item: &Item) -> bool
     ensures { result ≡ is_carbon item.now }
 {
-    item.symbol.text() == b"C".as_slice()
+    matches!(item.symbol.text(), [b'C'])
 }
 
 /// Whether there is an atom of carbon.

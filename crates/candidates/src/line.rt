@@ -1,5 +1,5 @@
 //! The line of a candidate in a report.
-ghost use Rattle.std.specs.Prelude.{◌≡◌, ◌+◌, ◌*◌, ◌^◌, ◌<◌, ◌≤◌, ◌++◌, pos, ◌+ℤ◌, length, true, is_some};
+ghost use Rattle.std.specs.Prelude.{◌≡◌, ◌+◌, ◌*◌, ◌^◌, ◌<◌, ◌≤◌, ◌++◌, pos, ◌+ℤ◌, length, true, is_some, All};
 ghost use Rattle.std.specs.Prelude.{OnOk, OnErr, unsigned_abs};
 ghost use Rattle.formula_text.specs.Formulas.{IsFormula};
 ghost use Rattle.formula_text.specs.Masses as formulas;
@@ -19,6 +19,16 @@ use report_lines::push_items_line;
 use std::alloc::AllocError;
 use written_items::Item;
 
+/// Room for the items of a formula over an alphabet. What it holds is of no use to anybody.
+pub type ItemRoom = [(Item, u32); MAX_ENTRIES];
+
+/// Room for the items of a formula, each with no atom yet.
+pub fn item_room(premises: &Ground) -> ItemRoom
+    ensures { All (λ entry. entry.1 ≡ 0) result }
+{
+    [(premises.alphabet().items()[0], 0); MAX_ENTRIES]
+}
+
 /// Appends the line of the formula of a count list over its ion, nothing where the ion isn't defined. Without room for
 /// it the report stays as it was.
 pub fn push_line(
@@ -31,10 +41,24 @@ pub fn push_line(
     ensures line { OnOk result (report.new.items ≡ report.old.items ++ line_at premises.now mz counts.now) }
     ensures refused { OnErr result (report.new.items ≡ report.old.items) }
 {
+    push_line_in(premises, mz, counts, &mut item_room(premises), report)
+}
+
+/// Appends the same, with the items of the formula written in `room`. Who appends many lines makes that once.
+pub fn push_line_in(
+    premises: &Ground,
+    mz: u64,
+    counts: &[u32],
+    room: &mut ItemRoom,
+    report: &mut Vec<u8>,
+) -> Result<(), AllocError>
+    requires { IsToken premises.now counts.now }
+    ensures line { OnOk result (report.new.items ≡ report.old.items ++ line_at premises.now mz counts.now) }
+    ensures refused { OnErr result (report.new.items ≡ report.old.items) }
+{
     let alphabet = premises.alphabet();
     let items = alphabet.items();
-    let mut room = [(items[0], 0); MAX_ENTRIES];
-    let count = premises.hill().write(items, counts, &mut room);
+    let count = premises.hill().write(items, counts, room);
     let mass = mass_of(alphabet.masses(), counts);
     push_formula(premises, mz, mass, &room[..count], report)
 }
