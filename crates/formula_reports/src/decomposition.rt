@@ -23,7 +23,7 @@ ghost use Rattle.formula_reports.specs.Reports.{formulas_report, peak_lines};
 ghost use Rattle.formula_reports.specs.Steps.{after_step, in_box, token_step};
 
 use crate::peaks::peaks_of;
-use candidates::{Candidates, CountLists, Ground, ResumeFault, push_line};
+use candidates::{Candidates, CountLists, Ground, ResumeFault, item_room, push_line_in};
 use command_io::{InputFault, Refusal, ground_of, put_line, put_text, table_of};
 use command_words::{MAX_LIMIT, Word};
 use formula_text::{Formula, read_formula};
@@ -444,10 +444,11 @@ fn put_kept<O: Sink>(
 {
     let alloc = *line.allocator();
     let mut counts = vec![in alloc; 0; lists.width()]?;
+    let mut items = item_room(premises);
     for place in 0..lists.len() {
         line.clear();
         lists.write_list(place, &mut counts);
-        push_line(premises, mz, &counts, line)?;
+        push_line_in(premises, mz, &counts, &mut items, line)?;
         put_line(line, out)?;
     }
     Ok(())
