@@ -21,7 +21,7 @@ ghost use Rattle.candidates.specs.Standings.{IsSearched, IsToken};
 
 use crate::count_lists::{CountLists, push_counts};
 use crate::grounds::Ground;
-use crate::line::push_line;
+use crate::line::{item_room, push_line};
 use crate::search::{Search, counts_of, is_sure};
 use alphabet_text::Alphabet;
 use decompose::{Counts, Decomps, Limit, ResumeFault, Window};
@@ -315,7 +315,14 @@ impl<'t> Candidates<'t> {
         if !self.has_given {
             return Ok(());
         }
-        push_line(self.premises, self.mz, self.last.counts(), report)
+        let mut room = item_room(self.premises);
+        push_line(
+            self.premises,
+            self.mz,
+            self.last.counts(),
+            &mut room,
+            report,
+        )
     }
 
     /// The formula of the count list given last, with which `resume` goes on. None where none was given since `start`.

@@ -23,7 +23,7 @@ pub use candidates::Candidates;
 pub use count_lists::CountLists;
 pub use decompose::ResumeFault;
 pub use grounds::Ground;
-pub use line::{ItemRoom, item_room, push_line, push_line_in};
+pub use line::{ItemRoom, item_room, push_line};
 
 #[cfg(test)]
 mod tests;

@@ -29,23 +29,10 @@ pub fn item_room(premises: &Ground) -> ItemRoom
     [(premises.alphabet().items()[0], 0); MAX_ENTRIES]
 }
 
-/// Appends the line of the formula of a count list over its ion, nothing where the ion isn't defined. Without room for
-/// it the report stays as it was.
+/// Appends the line of the formula of a count list over its ion, nothing where the ion isn't defined. The items of the
+/// formula are written in `room`, which who appends many lines makes once. Without memory for it the report stays as it
+/// was.
 pub fn push_line(
-    premises: &Ground,
-    mz: u64,
-    counts: &[u32],
-    report: &mut Vec<u8>,
-) -> Result<(), AllocError>
-    requires { IsToken premises.now counts.now }
-    ensures line { OnOk result (report.new.items ≡ report.old.items ++ line_at premises.now mz counts.now) }
-    ensures refused { OnErr result (report.new.items ≡ report.old.items) }
-{
-    push_line_in(premises, mz, counts, &mut item_room(premises), report)
-}
-
-/// Appends the same, with the items of the formula written in `room`. Who appends many lines makes that once.
-pub fn push_line_in(
     premises: &Ground,
     mz: u64,
     counts: &[u32],

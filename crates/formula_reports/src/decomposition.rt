@@ -23,7 +23,7 @@ ghost use Rattle.formula_reports.specs.Reports.{formulas_report, peak_lines};
 ghost use Rattle.formula_reports.specs.Steps.{after_step, in_box, token_step};
 
 use crate::peaks::peaks_of;
-use candidates::{Candidates, CountLists, Ground, ResumeFault, item_room, push_line_in};
+use candidates::{Candidates, CountLists, Ground, ResumeFault, item_room, push_line};
 use command_io::{InputFault, Refusal, ground_of, put_line, put_text, table_of};
 use command_words::{MAX_LIMIT, Word};
 use formula_text::{Formula, read_formula};
@@ -448,7 +448,7 @@ fn put_kept<O: Sink>(
     for place in 0..lists.len() {
         line.clear();
         lists.write_list(place, &mut counts);
-        push_line_in(premises, mz, &counts, &mut items, line)?;
+        push_line(premises, mz, &counts, &mut items, line)?;
         put_line(line, out)?;
     }
     Ok(())

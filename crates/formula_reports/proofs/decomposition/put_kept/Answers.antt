@@ -30,18 +30,18 @@ is-list : (list : List ℕ) (items now : List ℕ) (n : ℕ) → now ≡ take n 
     n ≡ length items → length list ≡ length items → now ≡ list
 is-list list items now n is all same = is ∙ written list items n all same
 
-pub push_line_in-requires : goal.push_line_in-requires
-push_line_in-requires g c =
+pub push_line-requires : goal.push_line-requires
+push_line-requires g c =
     let inside : c.loop-place.place < length c.args.lists.now = omega (arith, c.loop-place-test.true, c.len-place-end.ensures) in
     let now =
     is-list c.write_list.new.counts c.loop-place.counts.items c.deref.result.now c.loop-place.counts.len
     c.deref.ensures.value c.loop-place.counts.ok.0 (c.write_list.auto.counts ∙ ap length c.deref_mut.ensures.value) in
     subst (IsToken c.args.premises.now) (sym (now ∙ c.write_list.ensures)) (c.requires.tokens c.loop-place.place [] inside)
 
-pub returns-in_err-push_line_in : goal.returns-in_err-push_line_in
-returns-in_err-push_line_in g c =
+pub returns-in_err-push_line : goal.returns-in_err-push_line
+returns-in_err-push_line g c =
     let lists = c.args.lists.now in
-    let given = err_from_is_err_and c.from_residual-in_err-push_line_in.result c.from_residual-in_err-push_line_in.ensures.1 in
+    let given = err_from_is_err_and c.from_residual-in_err-push_line.result c.from_residual-in_err-push_line.ensures.1 in
     rw (given.1, given.2)
     (lines_memory (line_at c.args.premises.now c.args.mz) (take c.loop-place.place lists) (drop c.loop-place.place lists)
     lists _ _ _ _ (take-append-drop c.loop-place.place lists) c.loop-place.invariant.puts)
@@ -57,7 +57,7 @@ returns-in_err-put_line g c =
     is-list c.write_list.new.counts c.loop-place.counts.items c.deref.result.now c.loop-place.counts.len
     c.deref.ensures.value c.loop-place.counts.ok.0 (c.write_list.auto.counts ∙ ap length c.deref_mut.ensures.value) in
     let text : c.deref-in-loop-place.result.now ≡ line counts =
-    c.deref-in-loop-place.ensures.value ∙ c.in_ok-push_line_in.ensures.line
+    c.deref-in-loop-place.ensures.value ∙ c.in_ok-push_line.ensures.line
     ∙ ap (λ (t : List ℕ). t ++ line c.deref.result.now) c.clear.ensures.items ∙ ap line (now ∙ c.write_list.ensures) in
     let given = err_from_is_err_and c.from_residual-in_err-put_line.result c.from_residual-in_err-put_line.ensures.1 in
     rw (given.1, given.2)
@@ -80,7 +80,7 @@ loop-place-preserved g c =
     is-list c.write_list.new.counts c.loop-place.counts.items c.deref.result.now c.loop-place.counts.len
     c.deref.ensures.value c.loop-place.counts.ok.0 (c.write_list.auto.counts ∙ ap length c.deref_mut.ensures.value) in
     let text : c.deref-in-loop-place.result.now ≡ line counts =
-    c.deref-in-loop-place.ensures.value ∙ c.in_ok-push_line_in.ensures.line
+    c.deref-in-loop-place.ensures.value ∙ c.in_ok-push_line.ensures.line
     ∙ ap (λ (t : List ℕ). t ++ line c.deref.result.now) c.clear.ensures.items ∙ ap line (now ∙ c.write_list.ensures) in
     record {
       puts = subst (λ (ls : List (List ℕ)). Puts (flat_map line ls) (g.O.Sink.written c.args.out.now)

@@ -7,7 +7,7 @@ use Rattle.decompose.specs.Masses.{mass_of}
 use Rattle.candidates.specs.PeakFormulas.{items_of, masses_of}
 use Rattle.candidates.proofs.AlphabetMasses.{apart-items, box-length}
 use Rattle.candidates.proofs.LineTexts.{written-formula, written-mass, written-light}
-use Rattle.candidates.proofs.line.push_line_in.Goals as goal
+use Rattle.candidates.proofs.line.push_line.Goals as goal
 
 pub write-count-requires-clause-different : goal.write-count-requires-clause-different
 write-count-requires-clause-different c =
