@@ -1,14 +1,14 @@
 //! Products of two bounds over 10^18, without a division.
 //!
-//! The upper half of a product, times the inverse of 10^18 in whole parts of 2^123, is its quotient or at most 2 less;
+//! The upper half of a product, times the inverse of 10^18 in whole parts of 2^120, is its quotient or at most 2 less;
 //! two steps by the rest put that right.
 ghost use Rattle.std.specs.Prelude.{◌≡◌, ◌+◌, ◌*◌, ◌/◌, ◌%◌, ◌^◌, ◌<◌, ◌≤◌};
 ghost use Rattle.multinomial_bounds.specs.Bounds.{certainty, floor_of, ceiling_of};
 
 use crate::enclosure::CERTAINTY;
 
-/// 2^123 / 10^18, rounded down.
-const INVERSE: u64 = 10_633_823_966_279_326_983;
+/// 2^120 / 10^18, rounded down.
+const INVERSE: u64 = 1_329_227_995_784_915_872;
 
 /// The product of two bounds over 10^18, rounded down.
 pub(crate) fn times_lower(x: u64, y: u64) -> u64
@@ -38,7 +38,7 @@ fn divided(product: u128) -> (u64, u64)
     ensures rest { result.1 ≡ product % certainty }
 {
     let unit = u128::from(CERTAINTY);
-    let quotient = ((product >> 60) * u128::from(INVERSE)) >> 63;
+    let quotient = ((product >> 60) * u128::from(INVERSE)) >> 60;
     let rest = product - quotient * unit;
     let (quotient, rest) = stepped(quotient as u64, rest as u64);
     stepped(quotient, rest)
