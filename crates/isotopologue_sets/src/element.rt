@@ -35,8 +35,16 @@ impl ElementAtoms {
         requires few_atoms { atoms ≤ MAX_ATOMS }
         ensures { IfOk result (λ e. e ≡ record { weights = weights.now; atoms = atoms }) }
     {
-        let weights = weights.to_vec(alloc)?;
-        Ok(ElementAtoms { weights, atoms })
+        Ok(ElementAtoms::from_weights(weights.to_vec(alloc)?, atoms))
+    }
+
+    /// The same of weights that are given away.
+    pub fn from_weights(weights: Vec<u64>, atoms: u32) -> ElementAtoms
+        requires weights_in_range { IsWeights weights.items }
+        requires few_atoms { atoms ≤ MAX_ATOMS }
+        ensures { result ≡ record { weights = weights.items; atoms = atoms } }
+    {
+        ElementAtoms { weights, atoms }
     }
 
     /// The weights of the isotopes.
