@@ -34,7 +34,7 @@ fn element_of(alloc: Global, isotopes: &[Isotope], atoms: u32) -> Result<Element
     ensures weights_in_range { IfOk result (λ e. IsWeights e.weights) }
 {
     let weights = weights_of(alloc, isotopes)?;
-    ElementAtoms::of(alloc, &weights, atoms)
+    Ok(ElementAtoms::from_weights(weights, atoms))
 }
 
 /// The elements whose isotopologues a formula has: of each item without a label, in the formula's order,
@@ -48,8 +48,8 @@ pub fn elements_of(
     ensures elements { IfOk result (λ v. v.items ≡ formula_elements table.now formula.now) }
     ensures within_limits { IfOk result (λ v. AreElements v.items) }
 {
-    let mut elements = Vec::new(alloc);
     let items = formula.items();
+    let mut elements = Vec::with_capacity(alloc, items.len())?;
     for (item, atoms) in items {
         if item.label == 0 {
             elements.push(element_of(alloc, isotopes_of(table, item), *atoms)?)?;
