@@ -18,7 +18,7 @@ use Rattle.layered_envelope.proofs.NextChoice.{none_above}
 use Rattle.layered_envelope.proofs.ListedLayers.{walk-falls, walk-modes}
 use Rattle.layered_envelope.proofs.LoweredLists.{AreLists-kinds, kinds-elements, counted-layer}
 use Rattle.layered_envelope.proofs.CountedLayers.{is_counted}
-use Rattle.layered_envelope.proofs.Thresholds.{halving_falls, next_is, last_is, next-below, last-below}
+use Rattle.layered_envelope.proofs.Thresholds.{halving_falls, number_is, last_is, later-below, last-below}
 
 -- nothing is above the product of all modes
 none_above_modes : (lists : List Listing) (modes : List ℕ) → AreLists lists modes → (t s : ℕ) →
@@ -51,53 +51,50 @@ last-started elements hi last is =
 
 module _ (lists : List Listing) (modes : List ℕ) (hi given : ℕ) (layers : AreLayers lists modes hi given)
     (last : LayerEnd) (is : IsLast (elements_of lists) hi given last) where
-  pub last-above : hi / 2 ^ (given + 1) ≤ last.threshold
-  last-above = omega (arith, is.threshold_is, halving_falls hi given)
-
   module _ (new : List Listing) (kinds : kinds_of new ≡ kinds_of lists) where
     pub last-same : IsLast (elements_of new) hi given last
     last-same = subst (λ es. IsLast es hi given last) (sym (kinds-elements new lists kinds)) is
 
-    pub last-counted : All (λ l. l.threshold ≤ hi / 2 ^ (given + 1)) new → IsCounted new last
-    last-counted low =
-        let are : AreLists new modes = AreLists-kinds new lists kinds modes layers.lists_are in
-        ⊎_elim
-        (λ (some : 0 < given).
-        let lower : All (λ l. l.threshold ≤ hi / 2 ^ given) new =
-        All-weaker (λ l. l.threshold ≤ hi / 2 ^ (given + 1)) (λ l. l.threshold ≤ hi / 2 ^ given)
-        (λ l le. le_trans le (halving_falls hi given)) new low in
-        let counted = counted-layer new modes are (hi / 2 ^ given) lower
-        (last-below lists modes hi given layers some) in
-        is_counted new (hi / 2 ^ given) last is.threshold_is
-        (is.some some
-        ∙ ap (end_within_limit (elements_of lists)) (sym (last_is lists modes hi given layers some))
-        ∙ ap (λ es. end_within_limit es (hi / 2 ^ given)) (sym (kinds-elements new lists kinds))
-        ∙ sym counted))
-        (λ (first : given ≤ 0).
-        let zero_is : given ≡ 0 = omega arith in
-        let whole : last.threshold ≡ hi = is.threshold_is ∙ ap (λ (k : ℕ). hi / 2 ^ k) zero_is ∙ div-one hi in
-        none_counted new last
-        (none_above_modes new modes are (hi / 2 ^ (given + 1)) last.threshold low
-        (next-below lists modes hi given layers) (omega (arith, whole, layers.mode_is)))
-        (is.none zero_is))
-        (cases_lt 0 given)
+  -- a layer that comes later
+  module _ (number : ℕ) (later : given < number) where
+    pub last-above : hi / 2 ^ number ≤ last.threshold
+    last-above = omega (arith, is.threshold_is, halving_falls hi given number (omega arith))
 
-    -- after a layer was given
-    pub last-given : (end : LayerEnd) → Fits end → end.threshold ≡ hi / 2 ^ (given + 1) →
-        end_within_limit (elements_of lists) (hi / 2 ^ (given + 1)) ≡ Ok end →
-        IsLast (elements_of new) hi (given + 1) end
-    last-given end fits threshold gives =
-        let back : given ≡ given + 1 - 1 = omega arith in
-        record {
-          fits = fits;
-          threshold_is = threshold;
-          none = λ first. absurd (omega arith);
-          some = λ later.
-              sym gives
-              ∙ ap (end_within_limit (elements_of lists)) (next_is lists modes hi given layers)
-              ∙ ap (λ es. end_within_limit es (threshold_at (elements_of lists) given))
-              (sym (kinds-elements new lists kinds))
-              ∙ ap (λ (k : ℕ). end_within_limit (elements_of new) (threshold_at (elements_of lists) k)) back
-              ∙ ap (λ es. end_within_limit (elements_of new) (threshold_at es (given + 1 - 1)))
-              (sym (kinds-elements new lists kinds));
-        }
+    module _ (new : List Listing) (kinds : kinds_of new ≡ kinds_of lists) where
+      pub last-counted : All (λ l. l.threshold ≤ hi / 2 ^ number) new → IsCounted new last
+      last-counted low =
+          let are : AreLists new modes = AreLists-kinds new lists kinds modes layers.lists_are in
+          ⊎_elim
+          (λ (some : 0 < given).
+          let lower : All (λ l. l.threshold ≤ hi / 2 ^ given) new =
+          All-weaker (λ l. l.threshold ≤ hi / 2 ^ number) (λ l. l.threshold ≤ hi / 2 ^ given)
+          (λ l le. le_trans le (halving_falls hi given number (omega arith))) new low in
+          let counted = counted-layer new modes are (hi / 2 ^ given) lower
+          (last-below lists modes hi given layers some) in
+          is_counted new (hi / 2 ^ given) last is.threshold_is
+          (is.some some
+          ∙ ap (end_within_limit (elements_of lists)) (sym (last_is lists modes hi given layers some))
+          ∙ ap (λ es. end_within_limit es (hi / 2 ^ given)) (sym (kinds-elements new lists kinds))
+          ∙ sym counted))
+          (λ (first : given ≤ 0).
+          let zero_is : given ≡ 0 = omega arith in
+          let whole : last.threshold ≡ hi = is.threshold_is ∙ ap (λ (k : ℕ). hi / 2 ^ k) zero_is ∙ div-one hi in
+          none_counted new last
+          (none_above_modes new modes are (hi / 2 ^ number) last.threshold low
+          (later-below lists modes hi given layers number later) (omega (arith, whole, layers.mode_is)))
+          (is.none zero_is))
+          (cases_lt 0 given)
+
+      -- after it was given
+      pub last-given : (end : LayerEnd) → Fits end → end.threshold ≡ hi / 2 ^ number →
+          end_within_limit (elements_of lists) (hi / 2 ^ number) ≡ Ok end →
+          IsLast (elements_of new) hi number end
+      last-given end fits threshold gives = record {
+        fits = fits;
+        threshold_is = threshold;
+        none = λ first. absurd (omega arith);
+        some = λ some.
+            sym gives
+            ∙ ap (end_within_limit (elements_of lists)) (number_is lists modes hi given layers number some)
+            ∙ ap (λ es. end_within_limit es (threshold_at es (number - 1))) (sym (kinds-elements new lists kinds));
+      }

@@ -1,8 +1,8 @@
 -- What layers answer, from what they keep.
-use Rattle.std.proofs.Common.{◌≡◌, ◌≢◌, ℕ, ◌+◌, ◌*◌, ◌<◌, ◌≤◌, true, false, ltb, eqb, List, Option, Some, None, Ok, Err, refl, sym, ◌∙◌, ap, arith, ⊎_elim}
+use Rattle.std.proofs.Common.{◌≡◌, ◌≢◌, ℕ, ◌+◌, ◌*◌, ◌<◌, ◌≤◌, true, false, ltb, eqb, List, Option, Some, None, Result, Ok, Err, refl, sym, ◌∙◌, ap, arith, ⊎_elim}
 use Rattle.std.proofs.lemmas.Bool.{cases_lt, lt-ltb, le-ltb, eq-eqb, ne_eqb}
 use Rattle.multinomial_bounds.specs.Isotopologue.{Element}
-use Rattle.reader_answers.specs.Answers.{Gives}
+use Rattle.reader_answers.specs.Answers.{Gives, GivesAs}
 use Rattle.layered_envelope.specs.declared.fault.LayerFault.{LayerFault}
 use Rattle.layered_envelope.specs.declared.fault.LayerFault.TheVariants.{TooMany, Memory}
 use Rattle.layered_envelope.specs.declared.layer_end.LayerEnd.{LayerEnd}
@@ -36,6 +36,12 @@ module _ (l : Layering) where
       Gives {A = Option LayerEnd} is_memory (Err fault) (next_end l)
   fault_given Memory more gives = tt
   fault_given (TooMany t) more gives = rw more (ap some_end gives)
+
+-- a fault is the same where a value would be seen through a view
+pub later_fault : {A : Type 0} (view : A → LayerEnd) (fault : LayerFault) (expected : Result LayerEnd LayerFault) →
+    GivesAs (λ (x : LayerEnd). x) is_memory (Err fault) expected → GivesAs view is_memory (Err fault) expected
+later_fault view Memory expected gives = tt
+later_fault view (TooMany t) expected gives = gives
 
 pub steps_within : (q members steps old : ℕ) → steps ≤ old + 2 * q * members → steps ≤ old + most_steps q members
 steps_within q members steps old within =

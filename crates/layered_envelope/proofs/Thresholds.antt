@@ -17,12 +17,12 @@ use Rattle.layered_envelope.proofs.RoundedProducts.{fold-upper-some, fold-upper-
 use Rattle.layered_envelope.proofs.StartedLists.{modes-some, modes-most}
 use Rattle.layered_envelope.proofs.LoweredLists.{kinds-length, kinds-elements, AreLists-kinds}
 
-pub halving_falls : (n k : ℕ) → n / 2 ^ (k + 1) ≤ n / 2 ^ k
-halving_falls n k =
-    let powers : 2 ^ k ≤ 2 ^ (k + 1) = pow-le-pow_right {n = 2} (omega arith) (omega arith) in
-    let part : n / 2 ^ (k + 1) * 2 ^ (k + 1) ≤ n = div-mul-le_self n (2 ^ (k + 1)) in
-    le-div (n / 2 ^ (k + 1)) n (2 ^ k) (one-le-pow k 2 (omega arith))
-    (omega (arith, mul-le-mul_left (n / 2 ^ (k + 1)) powers))
+pub halving_falls : (n k later : ℕ) → k ≤ later → n / 2 ^ later ≤ n / 2 ^ k
+halving_falls n k later after =
+    let powers : 2 ^ k ≤ 2 ^ later = pow-le-pow_right {n = 2} (omega arith) after in
+    let part : n / 2 ^ later * 2 ^ later ≤ n = div-mul-le_self n (2 ^ later) in
+    le-div (n / 2 ^ later) n (2 ^ k) (one-le-pow k 2 (omega arith))
+    (omega (arith, mul-le-mul_left (n / 2 ^ later) powers))
 
 bounds_of-modes : (es : List Element) → All (λ e. IsWeights e.weights) es →
     bounds_of ceiling_of es (mode_of_each es) ≡ modes_of es
@@ -56,8 +56,8 @@ module _ (es : List Element) (ok : All (λ e. IsWeights e.weights) es) where
       let two : 1 < 2 ^ (step + 1) = rw (e, pow-suc) (omega arith) in
       div-lt_self mode_hi-some two
 
-  pub threshold_at-falls : (step : ℕ) → threshold_at es (step + 1) ≤ threshold_at es step
-  threshold_at-falls step = halving_falls (mode_hi es) (step + 1)
+  pub threshold_at-falls : (step later : ℕ) → step ≤ later → threshold_at es later ≤ threshold_at es step
+  threshold_at-falls step later after = halving_falls (mode_hi es) (step + 1) (later + 1) (omega arith)
 
   pub threshold_at-last : threshold_at es 59 ≡ 0
   threshold_at-last = div-eq_of_lt (omega (arith, mode_hi-most))
@@ -82,58 +82,68 @@ module _ (lists : List Listing) (modes : List ℕ) (hi given : ℕ) (layers : Ar
       layers.mode_is ∙ ap (fold upper certainty) layers.lists_are.modes_are
       ∙ sym (mode_hi-modes (elements_of lists) weights)
 
-  pub next_is : hi / 2 ^ (given + 1) ≡ threshold_at (elements_of lists) given
-  next_is = ap (λ (n : ℕ). n / 2 ^ (given + 1)) hi_is
+  pub number_is : (number : ℕ) → 0 < number → hi / 2 ^ number ≡ threshold_at (elements_of lists) (number - 1)
+  number_is number some =
+      ap (λ (n : ℕ). n / 2 ^ number) hi_is
+      ∙ ap (λ (k : ℕ). mode_hi (elements_of lists) / 2 ^ k) (let e : number ≡ number - 1 + 1 = omega arith in e)
 
   pub last_is : 0 < given → hi / 2 ^ given ≡ threshold_at (elements_of lists) (given - 1)
-  last_is some =
-      ap (λ (n : ℕ). n / 2 ^ given) hi_is
-      ∙ ap (λ (k : ℕ). mode_hi (elements_of lists) / 2 ^ k) (let e : given ≡ given - 1 + 1 = omega arith in e)
+  last_is some = number_is given some
 
-  pub next-lower : All (λ l. hi / 2 ^ (given + 1) ≤ l.threshold) lists
-  next-lower = rw next_is layers.at_most
+  pub next_is : hi / 2 ^ (given + 1) ≡ threshold_at (elements_of lists) given
+  next_is =
+      number_is (given + 1) (omega arith)
+      ∙ ap (threshold_at (elements_of lists)) (let e : given + 1 - 1 ≡ given = omega arith in e)
 
-  pub next-below : hi / 2 ^ (given + 1) < fold upper certainty modes
-  next-below = rw (next_is, ← layers.mode_is, hi_is) (threshold_at-below (elements_of lists) weights given)
+  -- after the lists were lowered at most to the next threshold, and no layer was given
+  pub layers-lowered : (new : List Listing) → kinds_of new ≡ kinds_of lists →
+      All (λ l. hi / 2 ^ (given + 1) ≤ l.threshold) new →
+      ((k : ℕ) (d : Listing) → k < length lists → (get_or new k d).threshold ≤ (get_or lists k d).threshold) →
+      AreLayers new modes hi given
+  layers-lowered new kinds at_least at_most = record {
+    lists_are = AreLists-kinds new lists kinds modes layers.lists_are;
+    mode_is = layers.mode_is;
+    few = layers.few;
+    at_most = rw (kinds-elements new lists kinds, ← next_is) at_least;
+    at_least = λ some.
+        rw (kinds-elements new lists kinds)
+        (λ k d within.
+        le_trans (at_most k d (omega (arith, kinds-length new lists kinds)))
+        (layers.at_least some k d (omega (arith, kinds-length new lists kinds))));
+  }
 
-  -- after the lists were lowered, and no layer was given
-  module _ (new : List Listing) (kinds : kinds_of new ≡ kinds_of lists)
-      (at_least : All (λ l. hi / 2 ^ (given + 1) ≤ l.threshold) new)
-      (at_most : (k : ℕ) (d : Listing) → k < length lists →
-      (get_or new k d).threshold ≤ (get_or lists k d).threshold) where
-    same_elements : elements_of new ≡ elements_of lists
-    same_elements = kinds-elements new lists kinds
+  -- a layer that comes later
+  module _ (number : ℕ) (later : given < number) where
+    pub later-lower : All (λ l. hi / 2 ^ number ≤ l.threshold) lists
+    later-lower =
+        rw (number_is number (omega arith))
+        (All-weaker (λ l. threshold_at (elements_of lists) given ≤ l.threshold)
+        (λ l. threshold_at (elements_of lists) (number - 1) ≤ l.threshold)
+        (λ l le. le_trans (threshold_at-falls (elements_of lists) weights given (number - 1) (omega arith)) le) lists
+        layers.at_most)
 
-    pub layers-lowered : AreLayers new modes hi given
-    layers-lowered = record {
+    pub later-below : hi / 2 ^ number < fold upper certainty modes
+    later-below =
+        rw (number_is number (omega arith), ← layers.mode_is, hi_is)
+        (threshold_at-below (elements_of lists) weights (number - 1))
+
+    -- after it was given
+    pub layers-given : (new : List Listing) → kinds_of new ≡ kinds_of lists →
+        All (λ l. hi / 2 ^ number ≤ l.threshold) new → All (λ l. l.threshold ≤ hi / 2 ^ number) new → number ≤ 60 →
+        AreLayers new modes hi number
+    layers-given new kinds at_least reached few = record {
       lists_are = AreLists-kinds new lists kinds modes layers.lists_are;
       mode_is = layers.mode_is;
-      few = layers.few;
-      at_most = rw (same_elements, ← next_is) at_least;
-      at_least = λ some.
-          rw same_elements
-          (λ k d within.
-          le_trans (at_most k d (omega (arith, kinds-length new lists kinds)))
-          (layers.at_least some k d (omega (arith, kinds-length new lists kinds))));
-    }
-
-    -- after a layer was given
-    pub layers-given : All (λ l. l.threshold ≤ hi / 2 ^ (given + 1)) new → (0 < given → hi / 2 ^ given ≢ 0) →
-        AreLayers new modes hi (given + 1)
-    layers-given reached more = record {
-      lists_are = AreLists-kinds new lists kinds modes layers.lists_are;
-      mode_is = layers.mode_is;
-      few =
-          few-unless_last (elements_of lists) weights given layers.few
-          (λ some last. more some (last_is some ∙ last));
+      few = few;
       at_most =
-          rw same_elements
-          (All-weaker (λ l. hi / 2 ^ (given + 1) ≤ l.threshold)
-          (λ l. threshold_at (elements_of lists) (given + 1) ≤ l.threshold)
-          (λ l le. le_trans (threshold_at-falls (elements_of lists) weights given) (rw next_is at le)) new at_least);
+          rw (kinds-elements new lists kinds)
+          (All-weaker (λ l. hi / 2 ^ number ≤ l.threshold)
+          (λ l. threshold_at (elements_of lists) number ≤ l.threshold)
+          (λ l le.
+          le_trans (threshold_at-falls (elements_of lists) weights (number - 1) number (omega arith))
+          (rw (number_is number (omega arith)) at le)) new at_least);
       at_least = λ some.
-          let back : given + 1 - 1 ≡ given = omega arith in
-          rw (same_elements, back, ← next_is) reached;
+          rw (kinds-elements new lists kinds, ← number_is number some) reached;
     }
 
 -- before the first layer

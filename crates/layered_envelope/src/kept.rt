@@ -15,10 +15,12 @@ use sub_isotopologues::SubIsos;
 /// MB at most, whatever the formulas are; those of a mass up to 1,000 Da need a sixth of it.
 const MAX_KEPT: usize = 65_536;
 
-/// The lists of elements, kept from one formula to the next.
+/// The lists of elements, kept from one formula to the next, and how many layers the last formula took.
 #[derive(Drop)]
 pub struct GrownLists {
     elements: Vec<ElementLists>,
+    /// The number of the reaching layer that the last formula had, and 0 before the first one.
+    layers: u32,
     /// The most places and items that are kept together.
     most: usize,
     /// How many more there is room for.
@@ -64,8 +66,21 @@ impl GrownLists {
     fn with_room(alloc: Global, most: usize) -> GrownLists {
         GrownLists {
             elements: Vec::new(alloc),
+            layers: 0,
             most,
             room: most,
+        }
+    }
+
+    /// The number of the layer that the last formula had, a guess for the next one; 0 where there is none.
+    pub fn layers(&self) -> u32 {
+        self.layers
+    }
+
+    /// Keeps the number of a formula's layer. Where no list is kept, no number is.
+    pub fn keep_layers(&mut self, layers: u32) {
+        if self.most > 0 {
+            self.layers = layers;
         }
     }
 

@@ -2,7 +2,7 @@
 
 use crate::fault::LayerFault;
 use crate::kept::GrownLists;
-use crate::layer_end::LayerEnd;
+use crate::layer_end::{LayerEnd, MAX_MEMBERS};
 use crate::lists::{modes_of, next_end, restart_lists, take_lists};
 use isotopologue_sets::ElementAtoms;
 use outside_ports::Steps;
@@ -42,10 +42,11 @@ impl Model for Layers {
 }
 
 impl Layers {
-    ghost use Rattle.std.specs.Prelude.{◌≡◌, ◌+◌, ◌≤◌, IfOk, OnErr, length};
-    ghost use Rattle.reader_answers.specs.Answers.{Gives};
-    ghost use Rattle.isotopologue_sets.specs.Layers.{AreElements};
-    ghost use Rattle.layered_envelope.specs.Layerings.{is_memory, next_end, with_next, most_end_steps};
+    ghost use Rattle.std.specs.Prelude.{◌≡◌, ◌+◌, ◌-◌, ◌<◌, ◌≤◌, IfOk, OnErr, length};
+    ghost use Rattle.reader_answers.specs.Answers.{Gives, GivesAs};
+    ghost use Rattle.isotopologue_sets.specs.Layers.{AreElements, threshold_at};
+    ghost use Rattle.layered_envelope.specs.Layerings.{is_memory, end_within_limit, next_end, with_next};
+    ghost use Rattle.layered_envelope.specs.Layerings.{most_steps, most_end_steps};
 
     /// The layers of up to 20 elements with at most 20,000 atoms together, before the first one. It fails only for want
     /// of memory.
@@ -116,5 +117,54 @@ impl Layers {
         self.given += 1;
         self.last = end;
         Ok(Some(end))
+    }
+    /// The layers from a later one on, and what that one has: those between are passed over. The first layer has the
+    /// number 1, and the 60th has the threshold 0.
+    ///
+    /// `TooMany` exactly where this layer has more than 1,048,576 members, and `Memory` for want of memory.
+    pub fn skip_to<L: Ledger>(
+        self,
+        number: u32,
+        steps: &mut Steps<L>,
+    ) -> Result<(Layers, LayerEnd), LayerFault>
+        requires later { self.given < number }
+        requires few { number ≤ 60 }
+        ensures gives { GivesAs (λ found. found.1) is_memory result
+            (end_within_limit self.elements (threshold_at self.elements (number - 1))) }
+        ensures given { IfOk result (λ found. found.0 ≡ record { elements = self.elements; given = number }) }
+        ensures steps { IfOk result (λ found.
+            steps.new ≤ steps.old + most_steps (length self.elements) found.1.members) }
+        ensures steps_at_limit { OnErr result
+            (steps.new ≤ steps.old + most_steps (length self.elements) (MAX_MEMBERS + 1)) }
+    {
+        let mut layers = self;
+        let end = next_end(
+            &mut layers.lists,
+            &layers.modes,
+            &mut layers.cutoffs,
+            layers.mode_hi >> number,
+            layers.last,
+            steps,
+        )?;
+        layers.given = number;
+        layers.last = end;
+        Ok((layers, end))
+    }
+
+    /// The threshold of the layer of a number, the first being 1.
+    pub fn threshold_of(&self, number: u32) -> u64
+        requires some { 1 ≤ number }
+        requires few { number ≤ 60 }
+        ensures { result ≡ threshold_at self.now.elements (number - 1) }
+    {
+        self.mode_hi >> number
+    }
+
+    /// How many layers were given.
+    pub fn given(&self) -> u32
+        ensures value { result ≡ self.now.given }
+        ensures few { result ≤ 60 }
+    {
+        self.given
     }
 }

@@ -13,12 +13,12 @@
 //!
 //! [`Layers`] are seen by contracts as their elements and how many layers were given, a [`Member`] as the list of its
 //! places, and a walk, [`Members`], as its elements, its threshold and the member that it gave last. The layer above
-//! takes one layer after another by [`Layers::next_layer`], which tells its totals, then goes over the members of one
-//! by [`Layers::members`] and asks for their counts and enclosures, or takes those of all at once by
-//! [`Layers::gathered`]. Over many formulas it keeps the lists in [`GrownLists`], from which [`Layers::start_with`]
-//! takes them. The crate stands on `sub_isotopologues` for the
-//! lists, on `isotopologue_sets` for what a layer is, on `multinomial_bounds`, on `outside_ports` for the counter of
-//! steps, on `reader_answers`, `sorted_lists` and `thiserror`.
+//! takes one layer after another by [`Layers::next_layer`], or one of a later number by [`Layers::skip_to`], each of which
+//! tells its totals, then goes over the members of one by [`Layers::members`] and asks for their counts and enclosures, or
+//! takes those of all at once by [`Layers::gathered`]. Over many formulas it keeps the lists in [`GrownLists`], from which
+//! [`Layers::start_with`] takes them, with the number of the layer that the last formula had. The crate stands on
+//! `sub_isotopologues` for the lists, on `isotopologue_sets` for what a layer is, on `multinomial_bounds`, on
+//! `outside_ports` for the counter of steps, on `reader_answers`, `sorted_lists` and `thiserror`.
 #![tactic(auto)]
 
 mod counting;

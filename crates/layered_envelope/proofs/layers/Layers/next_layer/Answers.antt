@@ -5,7 +5,7 @@ use Rattle.reader_answers.specs.Answers.{Gives}
 use Rattle.sub_isotopologues.specs.Listings.{Listing}
 use Rattle.layered_envelope.specs.LayerLists.{elements_of, kinds_of, AreLayers, IsLast}
 use Rattle.layered_envelope.specs.Layerings.{is_memory, next_end}
-use Rattle.layered_envelope.proofs.Thresholds.{next_is, last_is, next-lower, next-below, layers-lowered, layers-given}
+use Rattle.layered_envelope.proofs.Thresholds.{next_is, last_is, few-unless_last, later-lower, later-below, layers-lowered, layers-given}
 use Rattle.layered_envelope.proofs.LastEnds.{last-above, last-same, last-counted, last-given}
 use Rattle.layered_envelope.proofs.LoweredLists.{kinds-elements}
 use Rattle.layered_envelope.proofs.LayerAnswers.{layering, all_given, not_all_given, end_given, fault_given, steps_within, seen_given}
@@ -22,23 +22,25 @@ returns-then-self-eq0-clause-gives g c =
 pub next_end-requires-clause-lower : goal.next_end-requires-clause-lower
 next_end-requires-clause-lower g c =
     let s = c.self.inside in
-    rw c.deref_mut.ensures.value (next-lower s.lists.items s.modes.items s.mode_hi s.given c.self.invariant.0)
+    rw c.deref_mut.ensures.value (later-lower s.lists.items s.modes.items s.mode_hi s.given c.self.invariant.0 (s.given + 1) (omega arith))
 
 pub next_end-requires-clause-below : goal.next_end-requires-clause-below
 next_end-requires-clause-below g c =
     let s = c.self.inside in
-    rw c.deref.ensures.value (next-below s.lists.items s.modes.items s.mode_hi s.given c.self.invariant.0)
+    rw c.deref.ensures.value (later-below s.lists.items s.modes.items s.mode_hi s.given c.self.invariant.0 (s.given + 1) (omega arith))
 
 pub next_end-requires-clause-last : goal.next_end-requires-clause-last
 next_end-requires-clause-last g c =
     let s = c.self.inside in
     rw c.deref_mut.ensures.value
-    (last-counted s.lists.items s.modes.items s.mode_hi s.given c.self.invariant.0 s.last c.self.invariant.1)
+    (last-counted s.lists.items s.modes.items s.mode_hi s.given c.self.invariant.0 s.last c.self.invariant.1 (s.given + 1)
+    (omega arith))
 
 pub next_end-requires-clause-last_above : goal.next_end-requires-clause-last_above
 next_end-requires-clause-last_above g c =
     let s = c.self.inside in
-    last-above s.lists.items s.modes.items s.mode_hi s.given c.self.invariant.0 s.last c.self.invariant.1
+    last-above s.lists.items s.modes.items s.mode_hi s.given c.self.invariant.0 s.last c.self.invariant.1 (s.given + 1)
+    (omega arith)
 
 pub invariant_of-self : goal.invariant_of-self
 invariant_of-self g c =
@@ -115,11 +117,13 @@ invariant_of-self-2 g c =
     (λ ls. AreLayers ls s.modes.items s.mode_hi (s.given + 1)
     × IsLast (elements_of ls) s.mode_hi (s.given + 1) c.in_ok-end.end)
     (sym e) (
-      layers-given s.lists.items s.modes.items s.mode_hi s.given c.self.invariant.0 new kinds
-          c.in_ok-end.ensures.at_least (rw c.deref_mut.ensures.value at c.in_ok-end.ensures.at_most)
-          c.in_ok-end.ensures.ok more,
-      last-given s.lists.items s.modes.items s.mode_hi s.given c.self.invariant.0 s.last c.self.invariant.1 new kinds
-          c.in_ok-end.end c.in_ok-end.ensures.fits c.in_ok-end.ensures.threshold gives,
+      layers-given s.lists.items s.modes.items s.mode_hi s.given c.self.invariant.0 (s.given + 1) (omega arith) new kinds
+          c.in_ok-end.ensures.at_least c.in_ok-end.ensures.ok
+          (few-unless_last (elements_of s.lists.items) c.self.invariant.0.lists_are.elements.weights s.given
+          c.self.invariant.0.few
+          (λ some last. more some (last_is s.lists.items s.modes.items s.mode_hi s.given c.self.invariant.0 some ∙ last))),
+      last-given s.lists.items s.modes.items s.mode_hi s.given c.self.invariant.0 s.last c.self.invariant.1 (s.given + 1)
+          (omega arith) new kinds c.in_ok-end.end c.in_ok-end.ensures.fits c.in_ok-end.ensures.threshold gives,
     ) in
     (kept.0, kept.1, many)
 
