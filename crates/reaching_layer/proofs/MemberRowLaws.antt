@@ -1,12 +1,15 @@
 -- The counts of a member, one element after another, and members by their rows.
-use Rattle.std.proofs.Common.{◌≡◌, ℕ, ◌+◌, ◌*◌, ◌<◌, ◌≤◌, List, [], ◌∷◌, ◌++◌, length, get_or, map, sum, take, drop}
+use Rattle.std.proofs.Common.{◌≡◌, ℕ, ◌+◌, ◌*◌, ◌<◌, ◌≤◌, List, [], ◌∷◌, ◌++◌, length, get_or, map, sum, take, drop, ltb}
 use Rattle.std.proofs.Common.{refl, sym, ◌∙◌, ap, arith, All, append_assoc, append-nil, length-append}
 use Rattle.std.specs.List.{concat}
+use Rattle.std.specs.Prelude.{filter, sum_by}
 use Rattle.std.proofs.Math.Seq.{take-add, take-append_seam, drop-append_seam}
 use Rattle.std.proofs.lemmas.List.{length-map, length-take, get_or-map, take_more, take_all}
 use Rattle.std.proofs.lemmas.List.Folds.{concat-append}
 use Rattle.std.proofs.lemmas.List.Elements.{All-head, All-tail}
 use Rattle.multinomial_bounds.proofs.CompositionLemmas.{sum-cons}
+use Rattle.multinomial_bounds.proofs.SumLemmas.{sum_by-map}
+use Rattle.layered_envelope.proofs.ChoicesInOrder.{filter_map_by}
 use Rattle.multinomial_bounds.specs.Isotopologue.{Element, IsIsotopologue}
 use Rattle.isotopologue_sets.specs.Covers.{Member}
 use Rattle.isotopologue_list.proofs.FlatLemmas.{map_map}
@@ -81,6 +84,23 @@ module _ (isotopes counts : List ℕ) where
     members_hi =
         ap (map (λ (m : Member). m.hi)) (sym view)
         ∙ map_map (λ (m : Member). m.hi) (row_member isotopes counts) rows
+
+    -- those above a threshold
+    pub members_above : (threshold : ℕ) → filter (λ m. ltb threshold m.hi) members
+        ≡ map (row_member isotopes counts) (filter (λ (r : MemberRow). ltb threshold r.enclosure.hi) rows)
+    unfolding row_member
+    members_above threshold =
+        ap (filter (λ (m : Member). ltb threshold m.hi)) (sym view)
+        ∙ filter_map_by (λ (m : Member). ltb threshold m.hi) (λ (r : MemberRow). ltb threshold r.enclosure.hi)
+        (row_member isotopes counts) rows (λ r. refl)
+
+    pub total_above : (threshold : ℕ) → sum_by (λ m. m.lo) (filter (λ m. ltb threshold m.hi) members)
+        ≡ sum_by (λ r. r.enclosure.lo) (filter (λ (r : MemberRow). ltb threshold r.enclosure.hi) rows)
+    unfolding row_member
+    total_above threshold =
+        ap (sum_by (λ (m : Member). m.lo)) (members_above threshold)
+        ∙ sum_by-map (λ (m : Member). m.lo) (row_member isotopes counts)
+        (filter (λ (r : MemberRow). ltb threshold r.enclosure.hi) rows)
 
 -- how many isotopes the elements have together
 pub few_isotopes : (es : List Element) → All (λ e. length e.weights ≤ 16) es →

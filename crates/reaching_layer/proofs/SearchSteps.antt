@@ -3,19 +3,20 @@ use Rattle.std.proofs.Common.{◌≡◌, ℕ, zero, suc, ◌+◌, ◌-◌, ◌<�
 use Rattle.std.proofs.Common.{Result, Ok, Err, List, ◌∷◌, map, refl, sym, ◌∙◌, ap, arith, ⊎_elim}
 use Rattle.std.specs.Prelude.{◌||◌, find, unwrap_or}
 use Rattle.std.specs.List.{range_with_len}
-use Rattle.std.proofs.lemmas.Bool.{false≢true, le-leb, lt-leb, and_parts, eqb-true, ltb-true, cases_lt}
+use Rattle.std.proofs.lemmas.Bool.{false≢true, le-leb, lt-leb, and_parts, or_left, or_right, or_from, eqb-true, ltb-true, cases_lt}
 use Rattle.reader_answers.specs.Answers.{Gives}
 use Rattle.multinomial_bounds.specs.Isotopologue.{Element}
 use Rattle.isotopologue_sets.specs.Layers.{AreElements, lo_total, layer, layer_reaches, threshold_at, has_too_many, ends_search, last_threshold_for}
 use Rattle.isotopologue_sets.specs.Coverage.{max_coverage}
 use Rattle.isotopologue_sets.proofs.AllReach.{ends_search-zero}
-use Rattle.isotopologue_sets.proofs.FirstThreshold.{threshold_at-last}
+use Rattle.isotopologue_sets.proofs.FirstThreshold.{threshold_at-falls, threshold_at-last, last_threshold_for-halved, last_threshold_for-first}
 use Rattle.layered_envelope.specs.declared.fault.LayerFault.{LayerFault}
 use Rattle.layered_envelope.specs.declared.fault.LayerFault.TheVariants as layer
 use Rattle.layered_envelope.specs.declared.layer_end.LayerEnd.{LayerEnd}
 use Rattle.layered_envelope.specs.Layerings.{Layering, last_threshold, next_threshold, are_all_given, layer_end, some_end, next_end, with_next}
 use Rattle.layered_envelope.specs.Layerings.{is_memory as is_layer_memory}
-use Rattle.reaching_layer.specs.Searches.{AtReaching, EndsByFault}
+use Rattle.reaching_layer.specs.Searches.{IsPast, IsReachingNumber, IsGuessed, EndsByFault}
+use Rattle.reaching_layer.proofs.EarlierLayers.{earlier-few, earlier-short}
 use Rattle.reaching_layer.specs.LayerAnswers.{of_layer_fault}
 
 -- the first of some numbers that passes
@@ -68,10 +69,6 @@ told_many false true t told end is =
 told_many false false t told end is =
     absurd (let e : ◌≡◌ {A = Result (Option LayerEnd) LayerFault} (Ok (Some end)) (Err (layer.TooMany told)) = is in cc)
 
-or-true : (a b : Bool) → b ≡ true → (a || b) ≡ true
-or-true true b is = refl
-or-true false b is = is
-
 -- ---- the search, of which `count` layers were given and ended it not
 
 module _ (es : List Element) (ok : AreElements es) (coverage : ℕ) (most : coverage ≤ max_coverage) (count : ℕ)
@@ -116,26 +113,20 @@ module _ (es : List Element) (ok : AreElements es) (coverage : ℕ) (most : cove
           (layer_end l.elements (next_threshold l)) end told)
 
       pub reached : count < 60 → coverage ≤ end.lo_total → (new : Layering) → new ≡ with_next l (Some end) →
-          AtReaching es coverage new × (end.threshold ≡ last_threshold new)
+          IsPast es coverage new.given new
       reached within enough new after =
           let total : end.lo_total ≡ lo_total es (layer es (threshold_at es count)) = ap (λ e. e.lo_total) parts.1 in
-          let t : ℕ = threshold_at es count in
-          let here : layer_reaches es coverage t ≡ true =
-          le-leb coverage (lo_total es (layer es t)) (omega (arith, total)) in
-          let ends : last_threshold_for es coverage ≡ t =
-          ends_here within (ap (λ b. b || has_too_many es t) here) in
-          let elements_are : new.elements ≡ es = ap (λ x. x.elements) after ∙ is in
           let many : new.given ≡ count + 1 = ap (λ x. x.given) after ∙ ap (λ (n : ℕ). n + 1) given in
-          let less : count + 1 - 1 ≡ count = omega arith in
-          let last : last_threshold new ≡ t = rw (elements_are, many, less) refl in (
-            record {
-              elements_are = elements_are;
-              given = omega (arith, many);
-              last = last ∙ sym ends;
-              few = ap (has_too_many es) ends ∙ parts.0;
-            },
-            ap (λ e. e.threshold) parts.1 ∙ sym last,
-          )
+          let back : new.given - 1 ≡ count = omega (arith, many) in
+          record {
+            elements_are = ap (λ x. x.elements) after ∙ is;
+            some = omega (arith, many);
+            first_given = omega arith;
+            few_layers = omega (arith, many);
+            before = λ k less. before k (omega (arith, many, less));
+            reaches = rw back (omega (arith, total));
+            few = rw back parts.0;
+          }
 
       pub goes_on : end.lo_total < coverage → (k : ℕ) → k < count + 1 →
           ends_search es coverage (threshold_at es k) ≡ false
@@ -162,5 +153,90 @@ module _ (es : List Element) (ok : AreElements es) (coverage : ℕ) (most : cove
         let many : has_too_many es (threshold_at es count) ≡ true = rw (is, given) at both.0 in
         let here : t ≡ threshold_at es count = both.1 ∙ next_is in
         let ends : last_threshold_for es coverage ≡ threshold_at es count =
-        ends_here within (or-true (layer_reaches es coverage (threshold_at es count)) _ many) in
+        ends_here within (or_right (layer_reaches es coverage (threshold_at es count)) _ many) in
         (here ∙ sym ends, ap (has_too_many es) ends ∙ many)
+
+-- ---- the search that begins at a later layer
+
+module _ (es : List Element) (coverage number : ℕ) (few : has_too_many es (threshold_at es number) ≡ false) where
+  -- where that hasn't the coverage, none up to it has
+  pub none_yet : lo_total es (layer es (threshold_at es number)) < coverage → (k : ℕ) → k < number + 1 →
+      ends_search es coverage (threshold_at es k) ≡ false
+  none_yet short k within =
+      earlier-short es (threshold_at es number) (threshold_at es k) (threshold_at-falls es k number (omega arith)) few
+      coverage short
+
+-- the layers that were guessed, where the search goes on
+pub guessed-not_yet : (es : List Element) (coverage : ℕ) (layers : Layering) (total : ℕ) → IsGuessed es layers total →
+    total < coverage → (k : ℕ) → k < layers.given → ends_search layers.elements coverage (threshold_at layers.elements k) ≡ false
+guessed-not_yet es coverage layers total is short k within =
+    let more : layers.given - 1 + 1 ≡ layers.given = omega arith in
+    rw is.elements_are
+    (none_yet es coverage (layers.given - 1) (is.few (omega arith))
+    (omega (arith, is.total_is (omega arith), short)) k (omega (arith, more, within)))
+
+-- and where it is past the reaching layer
+pub guessed-past : (es : List Element) (coverage : ℕ) (layers : Layering) (total : ℕ) → IsGuessed es layers total →
+    1 ≤ coverage → coverage ≤ total → IsPast es coverage 1 layers
+guessed-past es coverage layers total is some enough =
+    ⊎_elim
+    (λ (later : 0 < layers.given).
+    record {
+      elements_are = is.elements_are;
+      some = omega arith;
+      first_given = omega (arith, later);
+      few_layers = is.few_layers;
+      before = λ k less. absurd (omega (arith, less));
+      reaches = omega (arith, is.total_is later, enough);
+      few = is.few later;
+    })
+    (λ (none : layers.given ≤ 0). absurd (omega (arith, is.none (omega (arith, none)), some, enough)))
+    (cases_lt 0 layers.given)
+
+module _ (es : List Element) (ok : AreElements es) (coverage : ℕ) (most : coverage ≤ max_coverage) (first : ℕ)
+    (layers : Layering) (past : IsPast es coverage first layers) where
+  ends : (t : ℕ) → coverage ≤ lo_total es (layer es t) → ends_search es coverage t ≡ true
+  ends t enough = or_left (layer_reaches es coverage t) (has_too_many es t) (le-leb coverage (lo_total es (layer es t)) enough)
+
+  pub past-few : has_too_many es (last_threshold_for es coverage) ≡ false
+  past-few =
+      let t : ℕ = threshold_at es (layers.given - 1) in
+      let lower : t ≤ last_threshold_for es coverage =
+      ⊎_elim
+      (λ (less : last_threshold_for es coverage < t).
+      absurd (false≢true (sym (last_threshold_for-first es ok coverage most (layers.given - 1) less) ∙ ends t past.reaches)))
+      (λ (more : t ≤ last_threshold_for es coverage). more)
+      (cases_lt (last_threshold_for es coverage) t) in
+      earlier-few es t (last_threshold_for es coverage) lower past.few
+
+  -- the number of a layer that was given, or is an earlier one
+  module _ (number : ℕ) (from : 1 ≤ number) (to : number ≤ layers.given) where
+    pub earlier-lower : threshold_at es (layers.given - 1) ≤ threshold_at es (number - 1)
+    earlier-lower = threshold_at-falls es (number - 1) (layers.given - 1) (omega arith)
+
+    few_here : has_too_many es (threshold_at es (number - 1)) ≡ false
+    few_here =
+        earlier-few es (threshold_at es (layers.given - 1)) (threshold_at es (number - 1)) earlier-lower past.few
+
+    module _ (before : (k : ℕ) → k + 1 < number → ends_search es coverage (threshold_at es k) ≡ false) where
+      pub reaching-number : coverage ≤ lo_total es (layer es (threshold_at es (number - 1))) →
+          IsReachingNumber es coverage layers.given number
+      reaching-number enough = record {
+        some = from;
+        within = to;
+        is =
+            ends_here es ok coverage most (number - 1) (λ k less. before k (omega arith))
+            (omega (arith, past.few_layers)) (ends (threshold_at es (number - 1)) enough);
+        few = few_here;
+      }
+
+      pub not_here : lo_total es (layer es (threshold_at es (number - 1))) < coverage → (k : ℕ) → k + 1 < number + 1 →
+          ends_search es coverage (threshold_at es k) ≡ false
+      not_here short k within =
+          let t : ℕ = threshold_at es (number - 1) in
+          ⊎_elim
+          (λ (less : k + 1 < number). before k less)
+          (λ (more : number ≤ k + 1).
+          let same : k ≡ number - 1 = omega arith in
+          rw same (or_from (layer_reaches es coverage t) (has_too_many es t) (lt-leb coverage (lo_total es (layer es t)) short) few_here))
+          (cases_lt (k + 1) number)

@@ -1,6 +1,6 @@
-//! How many bounds, from the first on, total a wanted coverage.
+//! How many bounds, from the first on, total a wanted coverage, and what those of a layer total.
 
-ghost use Rattle.std.specs.Prelude.{◌≡◌, length, sum, sum_by, take};
+ghost use Rattle.std.specs.Prelude.{◌≡◌, filter, length, nat_lt, sum, sum_by, take};
 ghost use Rattle.isotopologue_sets.specs.Covers.{fewest};
 
 use layered_envelope::MemberRow;
@@ -35,4 +35,17 @@ pub(crate) fn fewest_lower(rows: &[MemberRow], coverage: u64) -> usize
         total += u128::from(row.enclosure.lo);
     }
     rows.len()
+}
+
+/// What the lower bounds of the rows total whose upper bound is above a threshold.
+pub(crate) fn lower_total_above(rows: &[MemberRow], threshold: u64) -> u128
+    ensures { result ≡ sum_by (λ r. r.enclosure.lo) (filter (λ r. nat_lt threshold r.enclosure.hi) rows.now) }
+{
+    let mut total: u128 = 0;
+    for row in rows {
+        if row.enclosure.hi > threshold {
+            total += u128::from(row.enclosure.lo);
+        }
+    }
+    total
 }

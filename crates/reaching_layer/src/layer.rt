@@ -5,7 +5,7 @@ use crate::fewest::fewest;
 use crate::members::Members;
 use crate::search::layers_to_reaching;
 use isotopologue_sets::ElementAtoms;
-use layered_envelope::{GrownLists, LayerEnd, Layers};
+use layered_envelope::{GrownLists, Layers};
 use multinomial_bounds::Enclosure;
 use std::alloc::{AllocError, Global};
 use std::marker::Model;
@@ -86,16 +86,16 @@ impl ReachingLayer {
     }
 }
 
-ghost use Rattle.std.specs.Prelude.{◌≡◌, ◌+◌, ◌-◌, ◌*◌, ◌≤◌, All, IfOk, length};
+ghost use Rattle.std.specs.Prelude.{◌≡◌, ◌+◌, ◌-◌, ◌*◌, ◌≤◌, All, IfOk, length, map};
 ghost use Rattle.reader_answers.specs.Answers.{Gives};
 ghost use Rattle.multinomial_bounds.specs.Bounds.{IsEnclosure};
 ghost use Rattle.multinomial_bounds.specs.Isotopologue.{all_atoms, IsIsotopologue, isotopologue_weight, all_weight};
-ghost use Rattle.isotopologue_sets.specs.Layers.{AreElements};
+ghost use Rattle.isotopologue_sets.specs.Layers.{AreElements, threshold_at};
 ghost use Rattle.isotopologue_sets.specs.Coverage.{max_coverage};
-ghost use Rattle.isotopologue_sets.specs.Covers.{cover_numbers, IsCover};
+ghost use Rattle.isotopologue_sets.specs.Covers.{cover_numbers, member_of, ordered_layer, IsCover};
 ghost use Rattle.reaching_layer.specs.LayerAnswers.{is_memory, numbers_unless_too_many};
 ghost use Rattle.layered_envelope.specs.Layerings.{last_threshold};
-ghost use Rattle.reaching_layer.specs.Searches.{AtReaching};
+ghost use Rattle.reaching_layer.specs.Searches.{IsPast, IsReachingNumber};
 
 /// The reaching layer of elements for a wanted coverage in units of 10^-18, from 1 to 999,999 * 10^12.
 ///
@@ -142,31 +142,73 @@ pub fn reaching_layer_with(
     ensures width { IfOk result (λ l. All (λ m.
         m.hi ≤ m.lo + (2 * all_atoms elements.now + length elements.now - 1)) l.members) }
 {
-    let (layers, end) = layers_to_reaching(alloc, elements, coverage, kept)?;
-    let layer = layer_of(alloc, elements, &layers, end, coverage)?;
+    let (layers, first) = layers_to_reaching(alloc, elements, coverage, kept)?;
+    let (layer, number) = layer_of(alloc, elements, &layers, first, coverage)?;
     layers.give_back(kept);
+    kept.keep_layers(number);
     Ok(layer)
 }
 
-/// The reaching layer, which was given last.
+/// The reaching layer, which was given last or is an earlier one from the first on that can be it, and its number.
 fn layer_of(
     alloc: Global,
     elements: &[ElementAtoms],
     layers: &Layers,
-    end: LayerEnd,
+    first: u32,
     coverage: u64,
-) -> Result<ReachingLayer, AllocError>
+) -> Result<(ReachingLayer, u32), AllocError>
     requires elements { AreElements elements.now }
-    requires reaching { AtReaching elements.now coverage layers.now }
-    requires threshold { end.threshold ≡ last_threshold layers.now }
+    requires past { IsPast elements.now coverage first layers.now }
     requires below_one { coverage ≤ max_coverage }
-    ensures { IfOk result (λ l. l ≡ cover_numbers elements.now coverage) }
+    ensures { IfOk result (λ found. found.0 ≡ cover_numbers elements.now coverage) }
 {
-    let members = Members::of_layer(alloc, elements, layers)?;
-    Ok(ReachingLayer {
-        threshold: end.threshold,
+    let (members, number) = reaching_members(alloc, elements, layers, first, coverage)?;
+    let layer = ReachingLayer {
+        threshold: layers.threshold_of(number),
         size: members.fewest_lower(coverage),
         bound: fewest(&members.greatest_upper_bounds(alloc)?, coverage),
         members,
-    })
+    };
+    Ok((layer, number))
+}
+
+/// The members of the reaching layer, and its number.
+fn reaching_members(
+    alloc: Global,
+    elements: &[ElementAtoms],
+    layers: &Layers,
+    first: u32,
+    coverage: u64,
+) -> Result<(Members, u32), AllocError>
+    requires elements { AreElements elements.now }
+    requires past { IsPast elements.now coverage first layers.now }
+    requires below_one { coverage ≤ max_coverage }
+    ensures number { IfOk result (λ found. IsReachingNumber elements.now coverage layers.now.given found.1) }
+    ensures members { IfOk result (λ found. found.0 ≡ map (member_of elements.now)
+        (ordered_layer elements.now (threshold_at elements.now (found.1 - 1)))) }
+{
+    let mut members = Members::of_layer(alloc, elements, layers)?;
+    let number = reaching_number(&members, layers, first, coverage);
+    if number < layers.given() {
+        members.retain_above(layers.threshold_of(number));
+    }
+    Ok((members, number))
+}
+
+/// The number of the reaching layer, from the members of the layer given last.
+fn reaching_number(members: &Members, layers: &Layers, first: u32, coverage: u64) -> u32
+    requires elements { AreElements layers.now.elements }
+    requires past { IsPast layers.now.elements coverage first layers.now }
+    requires below_one { coverage ≤ max_coverage }
+    requires members { members.now ≡ map (member_of layers.now.elements)
+        (ordered_layer layers.now.elements (last_threshold layers.now)) }
+    ensures { IsReachingNumber layers.now.elements coverage layers.now.given result }
+{
+    for number in first..layers.given() {
+        let threshold = layers.threshold_of(number);
+        if members.lower_total_above(threshold) >= u128::from(coverage) {
+            return number;
+        }
+    }
+    layers.given()
 }

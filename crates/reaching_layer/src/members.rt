@@ -2,7 +2,7 @@
 //! with the place where its counts begin; the counts stay where they are.
 
 use crate::falling::sort_falling;
-use crate::fewest::fewest_lower;
+use crate::fewest::{fewest_lower, lower_total_above};
 use isotopologue_sets::ElementAtoms;
 use layered_envelope::{Layers, MemberRow};
 use multinomial_bounds::Enclosure;
@@ -33,7 +33,7 @@ impl Model for Members {
 }
 
 impl Members {
-    ghost use Rattle.std.specs.Prelude.{◌≡◌, ◌<◌, ◌≤◌, All, IfOk, [], length, map, nat_lt, slice_index_or, sum, take};
+    ghost use Rattle.std.specs.Prelude.{◌≡◌, ◌<◌, ◌≤◌, All, IfOk, [], filter, length, map, nat_lt, slice_index_or, sum, sum_by, take};
     ghost use Rattle.std.specs.List.{concat};
     ghost use Rattle.sorted_lists.specs.SortedLists.{sorted_by};
     ghost use Rattle.isotopologue_sets.specs.Layers.{AreElements};
@@ -94,6 +94,20 @@ impl Members {
         ensures { result ≡ fewest (λ n. sum (take n (map (λ m. m.lo) self.now))) coverage (length (map (λ m. m.lo) self.now)) }
     {
         fewest_lower(&self.rows, coverage)
+    }
+
+    /// What the lower bounds of those total whose upper bound is above a threshold.
+    pub(crate) fn lower_total_above(&self, threshold: u64) -> u128
+        ensures { result ≡ sum_by (λ m. m.lo) (filter (λ m. nat_lt threshold m.hi) self.now) }
+    {
+        lower_total_above(&self.rows, threshold)
+    }
+
+    /// Drops those whose upper bound isn't above a threshold.
+    pub(crate) fn retain_above(&mut self, threshold: u64)
+        ensures { self.new ≡ filter (λ m. nat_lt threshold m.hi) self.old }
+    {
+        self.rows.retain(|row| row.enclosure.hi > threshold);
     }
 
     /// The upper bounds of all, the greatest first.

@@ -30,4 +30,4 @@ returns-then-end-from-clause-layers g c =
     c.loop-count.invariant.2 c.loop-count.layers c.loop-count.invariant.0 c.loop-count.invariant.1 c.in-Some.end
     (c.in_ok-end.ensures.gives ∙ ap (λ o. Ok o) c.in-Some.is) c.loop-count-test.true
     (omega (arith, c.from.ensures, c.if-end-from.true)) c.next_layer.new.self
-    (c.in_ok-end.ensures.given ∙ ap (with_next c.loop-count.layers) c.in-Some.is)).0
+    (c.in_ok-end.ensures.given ∙ ap (with_next c.loop-count.layers) c.in-Some.is))
