@@ -6,9 +6,9 @@
 //!
 //! An [`IsotopologueList`] is seen by contracts as the list of its isotopologues, each with its counts and its
 //! two bounds. The crate stands on `multinomial_bounds` for the bounds and on `isotopologue_sets` for the
-//! elements. Only the body of `reaching_layer` uses it: it asks [`count_up_to`] whether there are too many, lists
-//! them by [`IsotopologueList::of`], and takes the counts and the enclosure of each by its place. The places stand in
-//! no contract above.
+//! elements. No code above calls it: the proofs of `sub_isotopologues` and `reaching_layer` take its lemmas, and their
+//! tests hold their lists and layers against [`IsotopologueList::of`], the plain way to them. [`count_up_to`] tells
+//! beforehand whether there are too many to be listed.
 #![tactic(auto)]
 
 mod composition;
