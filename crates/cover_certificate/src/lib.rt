@@ -9,8 +9,9 @@
 //! A [`Cover`] is seen by contracts as its formula, coverage, threshold, size and bound and the members of its layer,
 //! and a [`CoverMember`] as its counts, its text, its mass and its two bounds. The crate stands on `reaching_layer`
 //! and `isotopologue_sets` for the cover's numbers, on `isotopologue_text` for what is printed, on
-//! `multinomial_bounds`, `formula_text`, `element_table` and `reader_answers`. The program asks [`cover_of`] for the
-//! cover of a formula, which refuses one whose layers have too many members before they have the coverage.
+//! `multinomial_bounds`, `formula_text`, `element_table` and `reader_answers`. The program asks
+//! [`numbered_cover_of`] for the cover of a formula, which refuses one whose layers have too many members before they
+//! have the coverage; [`cover_of`] gives other callers the same with texts and masses.
 //!
 //! [`write_certificate`] gives the text of a cover's certificate, which `certificate_text` reads again: the same
 //! formula, numbers, marks and texts. What reads certificates and the texts of isotopologues is given out from here

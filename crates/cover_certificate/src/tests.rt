@@ -505,7 +505,7 @@ fn members_get_their_texts_one_at_a_time(rt: HostRuntime) -> Result<(), Fail> {
     Ok(())
 }
 
-// Insulin and six more atoms of its elements have more than 10^12 isotopologues. IsoSpec's cover has 419 members, too.
+// Human insulin has more than 10^12 isotopologues. IsoSpec's cover has 419 members, too.
 #[test]
 fn covers_of_large_formulas_are_found(rt: HostRuntime) -> Result<(), Fail> {
     let found = cover_of_text(
