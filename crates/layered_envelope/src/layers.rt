@@ -18,7 +18,7 @@ use sub_isotopologues::SubIsos;
 pub struct Layers {
     pub(crate) lists: Vec<SubIsos>,
     pub(crate) modes: Vec<u64>,
-    /// For each element what the threshold of the layer given last leaves for those up to it.
+    /// Scratch room, one place for each element, written anew for each layer.
     pub(crate) cutoffs: Vec<u64>,
     /// The upper bound of the isotopologue of all modes.
     pub(crate) mode_hi: u64,
