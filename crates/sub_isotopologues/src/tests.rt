@@ -5,6 +5,7 @@ use super::*;
 use isotopologue_list::IsotopologueList;
 use isotopologue_sets::ElementAtoms;
 use multinomial_bounds::MAX_ATOMS;
+use std::alloc::Global;
 use std::test::Fail;
 
 const UNIT: u64 = 1_000_000_000_000_000_000;
@@ -45,23 +46,36 @@ fn two_isotopes_of_equal_weight_are_listed_above_an_eighth(rt: HostRuntime) -> R
     Ok(())
 }
 
-#[test]
-fn a_token_gives_exactly_the_rest(rt: HostRuntime) -> Result<(), Fail> {
+/// The list of two atoms of two equal isotopes above an eighth, of which so many items were given.
+fn equal_atoms_after(alloc: Global, token: u64) -> Result<SubIsos, SubFault> {
     let none = Others {
         before: UNIT,
         after: &[],
     };
-    let mut list = SubIsos::resume(rt.alloc(), &EQUAL, 2, UNIT / 8, none, 1)?;
-    assert_eq!(rt; list.next(), Some(1));
-    assert_eq!(rt; list.token(), 2);
-    assert_eq!(rt; list.next(), Some(2));
-    assert_eq!(rt; list.next(), None);
-    assert_eq!(rt; list.token(), 3);
-    let mut start = SubIsos::resume(rt.alloc(), &EQUAL, 2, UNIT / 8, none, 0)?;
-    assert_eq!(rt; start.next(), Some(0));
-    let mut whole = SubIsos::resume(rt.alloc(), &EQUAL, 2, UNIT / 8, none, 3)?;
-    assert_eq!(rt; whole.next(), None);
-    let beyond = SubIsos::resume(rt.alloc(), &EQUAL, 2, UNIT / 8, none, 4);
+    SubIsos::resume(alloc, &EQUAL, 2, UNIT / 8, none, token)
+}
+
+/// Whether a list gives exactly the places from one on, up to an end, with each place as the token before it.
+fn gives_places(list: &mut SubIsos, from: u64, end: u64) -> bool {
+    for place in from..end {
+        if list.token() != place || list.next() != Some(place as usize) {
+            return false;
+        }
+    }
+    list.token() == end && list.next().is_none()
+}
+
+#[test]
+fn a_token_gives_exactly_the_rest(rt: HostRuntime) -> Result<(), Fail> {
+    let mut list = equal_atoms_after(rt.alloc(), 0)?;
+    assert_eq!(rt; list.items().len(), 3);
+    for given in 0..=3u64 {
+        assert_eq!(rt; list.token(), given);
+        let mut rest = equal_atoms_after(rt.alloc(), list.token())?;
+        assert!(rt; gives_places(&mut rest, given, 3));
+        assert_eq!(rt; list.next().is_some(), given < 3);
+    }
+    let beyond = equal_atoms_after(rt.alloc(), 4);
     assert!(rt; matches!(beyond, Err(SubFault::NotInList)));
     Ok(())
 }
