@@ -152,6 +152,57 @@ fn resumed(
     Ok(places)
 }
 
+/// The same with the token of a walk; nothing where it gave no member yet.
+fn resumed_with_token(
+    alloc: Global,
+    layers: &Layers,
+    members: &Members<'_>,
+    elements: usize,
+) -> Result<Vec<usize>, MemberFault>
+    requires given { 1 ≤ layers.now.given }
+    requires one_each { length layers.now.elements ≡ elements }
+{
+    match members.token()? {
+        Some(token) => resumed(alloc, layers, token.places(), elements),
+        None => Ok(Vec::new(alloc)),
+    }
+}
+
+fn resumed_after_each_with<L: Ledger>(
+    alloc: Global,
+    layers: &Layers,
+    elements: usize,
+    blank: Blank,
+) -> Result<Vec<usize>, MemberFault>
+    requires name { blank.name ≡ L.name }
+    requires parts { blank.parts ≡ L.parts }
+    requires some { 0 < blank.parts }
+    requires given { 1 ≤ layers.now.given }
+    requires one_each { length layers.now.elements ≡ elements }
+{
+    let mut steps = Steps::<L>::new(blank);
+    let mut out = Member::of(alloc, vec![in alloc; 0usize; elements]?.as_slice())?;
+    let mut members = layers.members()?;
+    let mut places = Vec::new(alloc);
+    while members.next_into(&mut out, &mut steps) {
+        let rest = resumed_with_token(alloc, layers, &members, elements)?;
+        places.extend_from_slice(&rest)?;
+    }
+    Ok(places)
+}
+
+/// For each member of the layer, one after another, the token taken behind it and what a walk resumed with it gives.
+fn resumed_after_each(
+    alloc: Global,
+    layers: &Layers,
+    elements: usize,
+) -> Result<Vec<usize>, MemberFault>
+    requires given { 1 ≤ layers.now.given }
+    requires one_each { length layers.now.elements ≡ elements }
+{
+    resumed_after_each_with::<Brand>(alloc, layers, elements, Blank::new(1))
+}
+
 fn end(threshold: u64, members: u64, lo_total: u128, hi_total: u128) -> LayerEnd {
     LayerEnd {
         threshold,
@@ -259,6 +310,10 @@ fn a_walk_goes_on_after_each_member_and_after_nothing_else(rt: HostRuntime) -> R
     assert_eq!(rt;
         resumed(alloc, &layers, &[2], 1)?.as_slice(),
         [2].as_slice()
+    );
+    assert_eq!(rt;
+        resumed_after_each(alloc, &layers, 1)?.as_slice(),
+        [0, 1, 2, 1, 2, 2].as_slice()
     );
     let none = Some(MemberFault::NotInLayer);
     assert_eq!(rt; resumed(alloc, &layers, &[3], 1).err(), none);
