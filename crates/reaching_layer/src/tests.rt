@@ -322,35 +322,103 @@ fn above(enclosures: &[Enclosure], threshold: u64) -> (usize, u128) {
     (count, total)
 }
 
-// The plain way to a layer goes over the list of all isotopologues.
-#[test]
-fn layers_are_those_of_the_list_of_all_isotopologues(rt: HostRuntime) -> Result<(), Fail> {
-    let alloc = rt.alloc();
-    let mut elements = Vec::new(alloc);
-    add_element(alloc, &mut elements, &[989_300_000, 10_700_000], 60)?;
-    add_element(
-        alloc,
-        &mut elements,
-        &[949_900_000, 7_500_000, 42_500_000, 100_000],
-        9,
-    )?;
-    let list = IsotopologueList::of(alloc, &elements)?;
+/// Some counts from a place on.
+fn counts_at(counts: &[u32], start: usize, width: usize) -> &[u32] {
+    let rest = &counts[start.min(counts.len())..];
+    &rest[..width.min(rest.len())]
+}
+
+/// Whether counts, one element after another, are those at a place of a list.
+fn are_counts(counts: &[u32], list: &IsotopologueList, place: usize, elements: usize) -> bool
+    requires within { place < length list.now }
+    requires as_many { All (λ i. length i.counts ≡ elements) list.now }
+{
+    let mut start: usize = 0;
+    for element in 0..elements {
+        let listed = list.counts(place, element);
+        if counts_at(counts, start, listed.len()) != listed {
+            return false;
+        }
+        start = start.saturating_add(listed.len());
+    }
+    start == counts.len()
+}
+
+/// Whether a list has these counts with this enclosure.
+fn stand_in(list: &IsotopologueList, elements: usize, counts: &[u32], enclosure: Enclosure) -> bool
+    requires as_many { All (λ i. length i.counts ≡ elements) list.now }
+{
+    for place in 0..list.len() {
+        if list.enclosure(place) == enclosure && are_counts(counts, list, place, elements) {
+            return true;
+        }
+    }
+    false
+}
+
+/// Whether one member stands before another: by falling lower bound, ties in lexicographic order.
+fn stands_before(layer: &ReachingLayer, place: usize, other: usize) -> bool
+    requires place { place < length layer.now.members }
+    requires other { other < length layer.now.members }
+{
+    let (lo, other_lo) = (layer.enclosure(place).lo, layer.enclosure(other).lo);
+    if lo != other_lo {
+        return lo > other_lo;
+    }
+    layer.counts(place).cmp(layer.counts(other)).is_lt()
+}
+
+/// Holds the members of a layer against a list: each once, in the cover's order, and above the threshold.
+fn expect_listed(rt: &impl Abort, layer: &ReachingLayer, list: &IsotopologueList, elements: usize)
+    requires as_many { All (λ i. length i.counts ≡ elements) list.now }
+{
+    for place in 0..layer.len() {
+        let enclosure = layer.enclosure(place);
+        assert!(rt; enclosure.hi > layer.threshold());
+        assert!(rt; stand_in(list, elements, layer.counts(place), enclosure));
+        if place > 0 {
+            assert!(rt; stands_before(layer, place - 1, place));
+        }
+    }
+}
+
+/// Holds the reaching layers of some coverages against the list of all isotopologues.
+fn expect_layers_of_list(
+    rt: &impl Abort,
+    alloc: Global,
+    elements: &[ElementAtoms],
+) -> Result<(), CoverFault>
+    requires elements { AreElements elements.now }
+{
+    let list = IsotopologueList::of(alloc, elements)?;
     for coverage in [HALF, 990_000_000_000_000_000, MOST] {
-        let layer = reaching_layer(alloc, &elements, coverage)?;
+        let layer = reaching_layer(alloc, elements, coverage)?;
         let (members, total) = above(list.enclosures(), layer.threshold());
         assert_eq!(rt; layer.len(), members);
         assert!(rt; total >= u128::from(coverage));
         let before = layer.threshold().saturating_mul(2).saturating_add(1);
         let (_, before) = above(list.enclosures(), before);
         assert!(rt; before < u128::from(coverage));
+        expect_listed(rt, &layer, &list, elements.len());
     }
     Ok(())
 }
 
-/// Some counts from a place on.
-fn counts_at(counts: &[u32], start: usize, width: usize) -> &[u32] {
-    let rest = &counts[start.min(counts.len())..];
-    &rest[..width.min(rest.len())]
+// The plain way to a layer goes over the list of all isotopologues.
+#[test]
+fn layers_are_those_of_the_list_of_all_isotopologues(rt: HostRuntime) -> Result<(), Fail> {
+    let alloc = rt.alloc();
+    let sulfur = [949_900_000, 7_500_000, 42_500_000, 100_000];
+    let mut two = Vec::new(alloc);
+    add_element(alloc, &mut two, &[989_300_000, 10_700_000], 60)?;
+    add_element(alloc, &mut two, &sulfur, 9)?;
+    expect_layers_of_list(&rt, alloc, &two)?;
+    let mut three = Vec::new(alloc);
+    add_element(alloc, &mut three, &[989_300_000, 10_700_000], 3)?;
+    add_element(alloc, &mut three, &sulfur, 2)?;
+    add_element(alloc, &mut three, &[757_600_000, 242_400_000], 2)?;
+    expect_layers_of_list(&rt, alloc, &three)?;
+    Ok(())
 }
 
 fn next_with<L: Ledger>(layers: &mut Layers, blank: Blank) -> Result<Option<LayerEnd>, LayerFault>
