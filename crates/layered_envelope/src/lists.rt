@@ -35,7 +35,7 @@ pub(crate) fn take_lists(
 ) -> Result<Vec<SubIsos>, AllocError>
     ensures { IfOk result (λ lists. elements_of lists.items ≡ elements.now) }
 {
-    let mut lists = Vec::new(alloc);
+    let mut lists = Vec::with_capacity(alloc, elements.len())?;
     for element in elements {
         lists.push(take_list(alloc, element, kept)?)?;
     }
@@ -64,7 +64,7 @@ fn take_list(
 pub(crate) fn modes_of(alloc: Global, lists: &[SubIsos]) -> Result<Vec<u64>, AllocError>
     ensures { IfOk result (λ modes. modes.items ≡ modes_of (elements_of lists.now)) }
 {
-    let mut modes = Vec::new(alloc);
+    let mut modes = Vec::with_capacity(alloc, lists.len())?;
     for list in lists {
         modes.push(list.mode().hi)?;
     }
